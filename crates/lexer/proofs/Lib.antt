@@ -1,0 +1,3 @@
+mod Counting
+pub mod Naming
+mod Wording

@@ -1,0 +1,2 @@
+// Words to a statement. It knows nothing of lines, marks and blocks.
+pub mod statements;
