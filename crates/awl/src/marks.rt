@@ -1,15 +1,15 @@
 // A mark: the name of a statement that a jump can go to. It knows nothing of where a mark stands.
 ghost use mathlib.Core.Path.{_≡_};
 ghost use mathlib.Core.Bool.{true};
-ghost use Prim.Native.Nat.{_≤_};
-ghost use lib.ListN.{length, take};
+ghost use Prim.Native.Nat.{_-_, _≤_};
+ghost use lib.ListN.{length, take, drop, replicate};
 ghost use Rattle.std.specs.Options.{isSome};
 ghost use Rattle.std.specs.Slices.{found};
 ghost use Rattle.std.specs.shelf.Text.{sameBytes};
 ghost use Rattle.awl.specs.MarkText.{isMark};
 use crate::bytes::ByteClass;
 
-// A capital, then up to five capitals or digits: the first `size` of its bytes.
+// A capital, then up to five capitals or digits: the first `size` of its bytes. The others are 0.
 #[derive(Clone, Copy)]
 pub struct Mark {
     pub bytes: [u8; 6],
@@ -17,6 +17,7 @@ pub struct Mark {
     ghost six: { length bytes ≡ 6 },
     ghost few: { size ≤ 6 },
     ghost lawful: { isMark (take size bytes) ≡ true },
+    ghost padded: { drop size bytes ≡ replicate (6 - size) 0 },
 }
 
 impl Mark {
@@ -28,7 +29,7 @@ impl Mark {
         if !spells_mark(text) {
             return None;
         }
-        let bytes = padded(text);
+        let bytes = with_zeros(text);
         Some(Mark {
             bytes,
             size: text.len() as u8,
@@ -68,10 +69,11 @@ fn spells_mark(text: &[u8]) -> bool
     ByteClass::Capital.has(text[0]) && spelled == text.len()
 }
 
-// The first six bytes, with zeros behind where there are fewer.
-fn padded(text: &[u8]) -> [u8; 6]
+// The bytes, with zeros behind to make six.
+fn with_zeros(text: &[u8]) -> [u8; 6]
     requires { ⌜ length (now text) ≤ 6 ⌝ }
     ensures value { λ r. ⌜ take (length (now (text .entry))) r ≡ now (text .entry) ⌝ }
+    ensures zeros { λ r. ⌜ drop (length (now (text .entry))) r ≡ replicate (6 - length (now (text .entry))) 0 ⌝ }
     ensures size { λ r. ⌜ length r ≡ 6 ⌝ }
 {
     let mut bytes = [0; 6];

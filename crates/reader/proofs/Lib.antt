@@ -1,7 +1,7 @@
-mod Carrying
+pub mod Carrying
 mod Idling
 mod Lawfulness
-mod Lining
+pub mod Lining
 mod Marking
 mod Moving
 mod Ranging

@@ -23,7 +23,7 @@ use Rattle.reader.specs.declared.faults.BlockFault.{BlockFault}
 use Rattle.reader.specs.declared.faults.BlockFault.the-variants.{Empty}
 
 -- how many bytes stand before the first byte 10
-abbrev size : List ℕ → ℕ
+abbrev pub size : List ℕ → ℕ
 size t = leading (inClass InLine) t
 
 -- a byte in front makes the first line longer, or stands alone
@@ -36,7 +36,7 @@ longer b (c ∷ t) cut =
     ap (prepend b) rest ∙ sym (ap (λ (k : ℕ). take k (b ∷ c ∷ t) ∷ linesOf (drop (1 + size (c ∷ t) + 1) (b ∷ c ∷ t))) one ∙ ap (λ (k : ℕ). take (suc (size (c ∷ t))) (b ∷ c ∷ t) ∷ linesOf (drop k (b ∷ c ∷ t))) two)
 
 -- the first line of a text, and the lines behind its byte 10
-line-cut : (t : List ℕ) → 0 < length t → linesOf t ≡ take (size t) t ∷ linesOf (drop (size t + 1) t)
+pub line-cut : (t : List ℕ) → 0 < length t → linesOf t ≡ take (size t) t ∷ linesOf (drop (size t + 1) t)
 line-cut [] h = absurd (omega arith)
 line-cut (b ∷ t) h = at (eqb b 10) (longer b t (line-cut t))
   where

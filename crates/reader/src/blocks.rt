@@ -61,6 +61,14 @@ impl Block {
     }
 }
 
+// The line that begins at an index of the text, without the byte 10 that ends it.
+pub fn line_at(text: &[u8], at: usize) -> &[u8]
+    ensures value { λ r. ⌜ now r ≡ firstLine (drop at (now (text .entry))) ⌝ }
+{
+    let rest = tail(text, at);
+    &rest[0..ByteClass::InLine.front(rest)]
+}
+
 // The text's statements by the definition alone.
 fn read_block(text: &[u8]) -> Result<Block, BlockFault>
     ensures value { λ r. ⌜ mapOk (λ b. listed (b .lines) (b .count)) r ≡ reading (now (text .entry)) ⌝ }
@@ -236,14 +244,6 @@ impl Listing {
         }
         None
     }
-}
-
-// The line that begins at an index of the text, without the byte 10 that ends it.
-fn line_at(text: &[u8], at: usize) -> &[u8]
-    ensures value { λ r. ⌜ now r ≡ firstLine (drop at (now (text .entry))) ⌝ }
-{
-    let rest = tail(text, at);
-    &rest[0..ByteClass::InLine.front(rest)]
 }
 
 // What stands before the comment.

@@ -1,0 +1,5 @@
+pub mod Meaning
+pub mod Benches
+pub mod Masks
+pub mod Frames
+pub mod Feeds
