@@ -34,12 +34,12 @@ abbrev pub is-decimal : ℕ → Bool
 is-decimal c = leb 48 c && leb c 57
 
 -- The digits a to f, in lower case alone.
-abbrev pub is-letter : ℕ → Bool
-is-letter c = leb 97 c && leb c 102
+abbrev pub is-a-to-f : ℕ → Bool
+is-a-to-f c = leb 97 c && leb c 102
 
 -- The value of a hexadecimal digit; a byte that is none counts 0.
 abbrev pub digit : ℕ → ℕ
-digit c = cond (is-decimal c) (c - 48) (cond (is-letter c) (c - 87) 0)
+digit c = cond (is-decimal c) (c - 48) (cond (is-a-to-f c) (c - 87) 0)
 
 -- The number that so many digits of a line write, from a place on, the highest digit first.
 unfoldable pub hex : List ℕ → ℕ → ℕ → ℕ
@@ -48,7 +48,7 @@ hex line from (suc k) = hex line from k * 16 + digit (getD line (from + k) 0)
 
 -- A byte is in place if it is the space at place 8, or a digit at any other place.
 abbrev pub formed-byte : ℕ → ℕ → Bool
-formed-byte place c = cond (eqb place 8) (eqb c 32) (is-decimal c || is-letter c)
+formed-byte place c = cond (eqb place 8) (eqb c 32) (is-decimal c || is-a-to-f c)
 
 -- Each byte is in place, the first of them standing at this place.
 abbrev pub formed-from : ℕ → List ℕ → Bool

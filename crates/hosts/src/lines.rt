@@ -7,7 +7,7 @@ ghost use mathlib.Core.List.{[], _∷_};
 ghost use Prim.Native.Nat.{_+_, _≤_, _<_, _^_};
 ghost use lib.ListN.{length, getD, drop};
 ghost use Rattle.std.specs.declared.option.Option.the-variants.{Some, None};
-ghost use Rattle.hosts.specs.Frames.{line-length, first-line, after-line, is-decimal, is-letter, digit, hex, formed-byte, well-formed, frame-of, frames, accepted};
+ghost use Rattle.hosts.specs.Frames.{line-length, first-line, after-line, is-decimal, is-a-to-f, digit, hex, formed-byte, well-formed, frame-of, frames, accepted};
 
 // What one advance of a feed brings: the milliseconds elapsed, and the inputs.
 #[derive(Clone, Copy)]
@@ -109,7 +109,7 @@ fn formed_byte(place: usize, c: u8) -> bool
 
 // Whether a byte is a hexadecimal digit.
 fn is_digit(c: u8) -> bool
-    ensures value { λ r. ⌜ r ≡ (is-decimal c || is-letter c) ⌝ }
+    ensures value { λ r. ⌜ r ≡ (is-decimal c || is-a-to-f c) ⌝ }
 {
     (48 <= c && c <= 57) || (97 <= c && c <= 102)
 }

@@ -26,16 +26,16 @@ pub enum BlockFault {
 pub impl From<WordFault> for LineFault as LineFromWord {
     ghost converts = { λ w r. r ≡ Word w };
 
-    fn from(fault: WordFault) -> LineFault {
-        LineFault::Word(fault)
+    fn from(word: WordFault) -> LineFault {
+        LineFault::Word(word)
     }
 }
 
 pub impl From<LineFault> for BlockFault as BlockFromLine {
     ghost converts = { λ l r. r ≡ Line l };
 
-    fn from(fault: LineFault) -> BlockFault {
-        BlockFault::Line(fault)
+    fn from(line: LineFault) -> BlockFault {
+        BlockFault::Line(line)
     }
 }
 
