@@ -5,12 +5,15 @@ use lib.Dec.{eqb, leb}
 use Rattle.awl.specs.declared.bytes.ByteClass.{ByteClass}
 use Rattle.awl.specs.declared.bytes.ByteClass.the-variants.{Printable, InLine, Space, Ink, BeforeComment, BeforeColon, BeforePoint, Digit, Capital, MarkByte}
 
+-- A to Z
 abbrev pub isCapital : ℕ → Bool
 isCapital b = leb 65 b && leb b 90
 
+-- 0 to 9
 abbrev pub isDigit : ℕ → Bool
 isDigit b = leb 48 b && leb b 57
 
+-- 10 ends a line, 32 is a space, 59 is ; and 58 is : and 46 is a point
 abbrev pub inClass : ByteClass → ℕ → Bool
 inClass Printable b = leb 32 b && leb b 126
 inClass InLine b = not (eqb b 10)

@@ -3,6 +3,7 @@ use Prim.Native.Nat.{ℕ}
 use Rattle.awl.specs.declared.refusals.Refusal.{Refusal}
 use Rattle.awl.specs.declared.refusals.Refusal.the-variants.{Byte, Operation, Operand, Number, Mark, StatementCount, DataLength, ShortTable, Frame, ScanOpen, NoFreePlace, NotHeld, LaidAlready, NotPassed, Ticket, ScanOver, ScanNotEnded}
 
+-- there is no number 10
 abbrev pub refusalNumber : Refusal → ℕ
 refusalNumber Byte = 1
 refusalNumber Operation = 2

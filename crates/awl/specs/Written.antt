@@ -62,20 +62,25 @@ pub data Operand : Type 0 where
 abbrev pub markText : Mark → List ℕ
 markText m = take (m .size) (m .bytes)
 
+-- each kind of operand that a statement holds, as it is written
 abbrev pub bitOperand : Bit → Operand
 bitOperand b = bit (b .area) (b .byte) (b .bit)
 
+-- a byte, word or double word of the image
 abbrev pub spanOperand : Span → Operand
 spanOperand s = span (s .area) (s .width) (s .first)
 
+-- a place in the chosen data block
 abbrev pub dataOperand : DataPlace → Operand
 dataOperand d = data-place (d .part) (d .word)
 
+-- what a query asks
 abbrev pub queryOperand : Query → Operand
 queryOperand (query.Bit b) = bitOperand b
 queryOperand (query.Timer t) = timer (t .number)
 queryOperand (query.Counter z) = counter (z .number)
 
+-- what L loads
 abbrev pub sourceOperand : Source → Operand
 sourceOperand (source.Span s) = spanOperand s
 sourceOperand (source.Data d) = dataOperand d
@@ -84,14 +89,17 @@ sourceOperand (source.Double z) = double-constant z
 sourceOperand (source.Timer t) = timer (t .number)
 sourceOperand (source.Counter z) = counter (z .number)
 
+-- what LC loads
 abbrev pub codedOperand : CodedSource → Operand
 codedOperand (coded.Timer t) = timer (t .number)
 codedOperand (coded.Counter z) = counter (z .number)
 
+-- where T stores
 abbrev pub destinationOperand : Destination → Operand
 destinationOperand (destination.Span s) = spanOperand s
 destinationOperand (destination.Data d) = dataOperand d
 
+-- what R resets
 abbrev pub resettableOperand : Resettable → Operand
 resettableOperand (resettable.Bit b) = bitOperand b
 resettableOperand (resettable.Timer t) = timer (t .number)

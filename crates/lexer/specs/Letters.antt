@@ -49,6 +49,7 @@ constantLetters c = cond (eqb c 66) (Some Byte) (cond (eqb c 68) (Some Double) N
 abbrev pub blockLetters : BlockKind → ℕ → Option Letters
 blockLetters k c = cond (eqb c 66) (Some (Block k)) None
 
+-- E, A, M with a width, D with a part or B, K with a size, and the kinds of blocks
 abbrev pub twoLetters : ℕ → ℕ → Option Letters
 twoLetters c d =
     cond (eqb c 69) (spanLetters Input d)

@@ -23,15 +23,18 @@ pub record Piece : Type 0 where
   pub bytes : List ℕ
   pub column : ℕ
 
+-- a part of the code, by its bytes and its column
 abbrev pub seen : Part → Piece
 seen p = record { bytes = p .bytes .now; column = p .column }
 
+-- a word, whatever it stands for, as a part of the line
 abbrev pub seenWord : Word → Piece
 seenWord (Mark p) = seen p
 seenWord (Operation p) = seen p
 seenWord (Operand p) = seen p
 seenWord (Number p) = seen p
 
+-- what a word stands for
 abbrev pub kindOf : Word → WordKind
 kindOf (Mark p) = kind.Mark
 kindOf (Operation p) = kind.Operation
@@ -63,6 +66,7 @@ pub record Pieces : Type 0 where
   pub value : Piece
   pub extra : Piece
 
+-- the four words of the code, as parts of the line
 abbrev pub seenWords : Words → Pieces
 seenWords w =
     record { operation = seen (w .operation); operand = seen (w .operand); value = seen (w .value); extra = seen (w .extra) }
@@ -75,6 +79,7 @@ wordsFrom code c =
     let third = wordFrom code (past second) in
     record { operation = first; operand = second; value = third; extra = wordFrom code (past third) }
 
+-- a word without a byte is not there
 abbrev pub isMissing : Piece → Bool
 isMissing p = eqb (length (p .bytes)) 0
 

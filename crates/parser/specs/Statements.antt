@@ -32,6 +32,7 @@ pub record Written : Type 0 where
   pub operand : Operand
   pub target : Option ℕ
 
+-- a typed statement as it is written
 abbrev pub written : Statement → Written
 written s = record { operation = operationOf s; operand = operandOf s; target = targetOf s }
 

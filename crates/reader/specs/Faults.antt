@@ -14,11 +14,13 @@ lineRefusal (Byte l c) = refusal.Byte
 lineRefusal (Colon l c) = refusal.Operation
 lineRefusal (Word w) = kindRefusal (w .kind)
 
+-- the line of a line's fault
 abbrev pub lineOfLine : LineFault → ℕ
 lineOfLine (Byte l c) = l
 lineOfLine (Colon l c) = l
 lineOfLine (Word w) = w .line
 
+-- the column of a line's fault
 abbrev pub columnOfLine : LineFault → ℕ
 columnOfLine (Byte l c) = c
 columnOfLine (Colon l c) = c
@@ -31,12 +33,14 @@ blockRefusal (MarkTwice l c) = refusal.Mark
 blockRefusal (Full l) = refusal.StatementCount
 blockRefusal Empty = refusal.StatementCount
 
+-- the line of a block's fault, from 1; 0 where the text has no statement
 abbrev pub lineOfBlock : BlockFault → ℕ
 lineOfBlock (Line f) = lineOfLine f
 lineOfBlock (MarkTwice l c) = l
 lineOfBlock (Full l) = l
 lineOfBlock Empty = 0
 
+-- the column of a block's fault, from 1; 0 where the text has no statement
 abbrev pub columnOfBlock : BlockFault → ℕ
 columnOfBlock (Line f) = columnOfLine f
 columnOfBlock (MarkTwice l c) = c

@@ -64,11 +64,13 @@ pub record Lawful (es : List Entry) : Type 0 where
 abbrev pub wordAt : (ℕ → ℕ) → WordFault → WordFault
 wordAt f w = record { kind = w .kind; flaw = w .flaw; line = f (w .line); column = w .column }
 
+-- the same for a line's fault
 abbrev pub lineAt : (ℕ → ℕ) → LineFault → LineFault
 lineAt f (Byte l c) = Byte (f l) c
 lineAt f (Colon l c) = Colon (f l) c
 lineAt f (Word w) = Word (wordAt f w)
 
+-- and for a block's; that of no statement has no line
 abbrev pub blockAt : (ℕ → ℕ) → BlockFault → BlockFault
 blockAt f (Line l) = Line (lineAt f l)
 blockAt f (MarkTwice l c) = MarkTwice (f l) c

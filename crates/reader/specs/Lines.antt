@@ -42,6 +42,7 @@ codeOf line = take (leading (inClass BeforeComment) line) line
 abbrev pub holds : List ℕ → Bool
 holds line = ltb (leading (inClass Space) (codeOf line)) (length (codeOf line))
 
+-- a line's number, and the column behind its last byte, comment included
 abbrev pub lineEnd : ℕ → List ℕ → LineEnd
 lineEnd n line = record { line = n; column = length line + 1 }
 

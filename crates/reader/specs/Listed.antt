@@ -8,6 +8,7 @@ use Rattle.reader.specs.Reading.{Entry}
 use Rattle.parser.specs.Statements.{written}
 use Rattle.reader.specs.declared.listings.Line.{Line}
 
+-- a line of the code as a statement that was read
 abbrev pub entry : Line → Entry
 entry l = record { line = l .number; mark = mapped markText (l .mark); statement = written (l .statement) }
 

@@ -6,8 +6,10 @@ use Rattle.lexer.specs.Words.{Piece}
 use Rattle.reader.specs.declared.heads.Head.{Head as HeadCode}
 use Rattle.reader.specs.declared.heads.PlacedMark.{PlacedMark}
 
+-- a mark with its column, as a part of the line
 abbrev pub placedSeen : PlacedMark → Piece
 placedSeen p = record { bytes = markText (p .mark); column = p .column }
 
+-- the head of a line
 abbrev pub headSeen : HeadCode → Head
 headSeen h = record { mark = mapped placedSeen (h .mark); behind = h .behind }
