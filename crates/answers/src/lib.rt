@@ -1,4 +1,6 @@
 // The answers of the desk protocol, and how each is written. It knows nothing of the calls.
+#![tactic(auto)]
+
 ghost use Rattle.std.specs.Prelude.{◌≡◌, IfOk, string_bytes};
 ghost use Rattle.answers.specs.Written.{written};
 

@@ -1,6 +1,8 @@
 // Verdicts on many small projects. Standard input has cases: a line that starts with = gives a case its title, and the lines
 // below it are a project file. Each case is answered with one line: its title, and the first line of what `verdict` says.
 // It knows nothing of how projects are read or checked.
+#![tactic(auto)]
+
 ghost use Rattle.std.specs.Prelude.{◌≤◌, length};
 
 use awl::bytes::tail;

@@ -1,11 +1,11 @@
 -- A project's walk taken apart by blocks, and chains of calls from name to name and from slot to slot.
-use Rattle.std.proofs.Common.{◌≡◌, ℕ, zero, suc, ◌<◌, Bool, true, ◌⊎◌, List, Some, Option, sym, refl, ap, ◌∙◌, subst, inl, inr, ⊎_elim}
+use Rattle.std.proofs.Common.{◌≡◌, ℕ, zero, suc, Bool, true, ◌⊎◌, List, Some, sym, ◌∙◌, subst, inl, inr}
 use Rattle.awl.specs.declared.names.BlockName.{BlockName}
 use Rattle.store.proofs.Holding.{slot_has_name, name_has_slot}
 use Rattle.store.specs.Held.{slot_of, name_at}
 use Rattle.store.specs.declared.store.Store.{Store}
 use Rattle.walk.specs.Walk.{flow_at, HasAt, OnWalk, start, on}
-use Rattle.checker.specs.Chains.{In, Linked, none, call, Level, Entered}
+use Rattle.checker.specs.Chains.{Linked, none, call, Level, Entered}
 use Rattle.checker.specs.Inside.{Outward, k2 as out2, k7 as out7, k8 as out8, BadAt}
 use Rattle.checker.specs.Joins.{Enters, CallsTo, Reach, Reached}
 use Rattle.checker.specs.Project.{Project, project_of, Holds, flows_in, outermost, Walk, starts, goes, enters, Chain, alone, more, HasIn, own, k2, k7, k8, Met, at, k9}

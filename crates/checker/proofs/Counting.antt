@@ -1,21 +1,20 @@
 -- How many statements the walk comes to, block by block and slot by slot.
-use Rattle.std.proofs.Common.{◌≡◌, ℕ, zero, suc, ◌+◌, ◌-◌, ◌/◌, ◌%◌, ◌^◌, ◌<◌, ◌≤◌, Bool, true, false, cond, eqb, ◌⊎◌, List, [], ◌∷◌, ◌++◌, map, length, get_or, take, replicate, Some, None, Decides, sum_by, count_by, Option, sym, refl, ap, ◌∙◌, subst, ⊎_elim, add-zero, zero-add, arith}
+use Rattle.std.proofs.Common.{◌≡◌, ℕ, zero, suc, ◌+◌, ◌-◌, ◌/◌, ◌%◌, ◌^◌, ◌<◌, Bool, true, false, cond, eqb, List, [], ◌∷◌, map, length, get_or, take, replicate, Some, None, sum_by, count_by, Option, sym, refl, ap, ◌∙◌, subst, zero-add, arith}
 use Rattle.std.proofs.lemmas.List.{take_all, length-map, get_or-map, length-take-le, get_or-take, length-replicate, get_or-replicate}
-use Rattle.std.proofs.lemmas.List.Sums.{sum_by-cons, sum_by-append, sum_by_more, count_by-le-length}
-use Rattle.std.proofs.lemmas.Bool.{eqb-true, eq-eqb, both_ways, cases_eq}
+use Rattle.std.proofs.lemmas.List.Sums.{sum_by-cons, sum_by-append, sum_by_more}
+use Rattle.std.proofs.lemmas.Bool.{eqb-true, eq-eqb, both_ways}
 use Rattle.std.specs.Option.{option_to_list}
 use Rattle.awl.specs.declared.names.BlockName.{BlockName}
 use Rattle.store.proofs.Holding.{name_has_slot}
-use Rattle.store.specs.Held.{name_at, slot_of}
+use Rattle.store.specs.Held.{name_at}
 use Rattle.store.specs.Slots.{names_in, free}
 use Rattle.store.specs.declared.slots.Slot.{Slot}
 use Rattle.store.specs.declared.store.Store.{Store}
-use Rattle.walk.specs.Findings.{Sighted, Found, unseen}
+use Rattle.walk.specs.Findings.{Found, unseen}
 use Rattle.walk.specs.declared.sights.Finding.{Finding}
 use Rattle.walk.specs.declared.sights.Sight.{Sight}
-use Rattle.checker.specs.Chains.{In}
-use Rattle.checker.specs.Counts.{ComesTo, CountsIn, Counts, seen_in, seen_at, of_name, seen_by, seen_of}
-use Rattle.checker.specs.Joins.{IsOf, FoundTo, Reach}
+use Rattle.checker.specs.Counts.{CountsIn, Counts, seen_in, seen_at, of_name, seen_by, seen_of}
+use Rattle.checker.specs.Joins.{FoundTo, Reach}
 use Rattle.checker.specs.Project.{Project, project_of, Holds, flows_in, outermost, Chain}
 use Rattle.checker.proofs.Chaining.{along, walk_chain, chain_start}
 use Rattle.checker.proofs.Fitting.{slot_low, held_slot}

@@ -1,9 +1,9 @@
 -- The blocks of a store, as the walk of one block wants them.
-use Rattle.std.proofs.Common.{◌≡◌, ℕ, ◌-◌, ◌<◌, ◌≤◌, true, false, List, map, length, get_or, is_some, Some, None, Option, sym, refl, ap, ◌∙◌, subst, arith}
+use Rattle.std.proofs.Common.{◌≡◌, ℕ, ◌-◌, ◌<◌, true, false, List, length, get_or, is_some, Some, None, Option, sym, refl, ap, ◌∙◌, subst, arith}
 use Rattle.std.proofs.lemmas.List.{length-map, get_or-map}
 use Rattle.std.specs.Option.{option_map}
 use Rattle.awl.specs.Written.{Operand, none, bit, span, timer, counter, data_place, byte_constant, double_constant, mark, block, data_block}
-use Rattle.parser.specs.Statements.{Written, written}
+use Rattle.parser.specs.Statements.{Written}
 use Rattle.awl.specs.declared.names.BlockName.{BlockName}
 use Rattle.awl.specs.declared.statements.BlockEnd.{BlockEnd}
 use Rattle.awl.specs.declared.statements.BlockEnd.TheVariants as end
@@ -11,13 +11,12 @@ use Rattle.awl.specs.declared.statements.JumpCondition.{JumpCondition}
 use Rattle.awl.specs.declared.statements.JumpCondition.TheVariants as jump
 use Rattle.awl.specs.declared.statements.Operation.{Operation}
 use Rattle.awl.specs.declared.statements.Operation.TheVariants as operation
-use Rattle.awl.specs.declared.statements.Statement.{Statement}
 use Rattle.store.proofs.Holding.{slot_has_name, name_has_slot, block_found, text_readable}
 use Rattle.store.specs.Held.{slot_of, name_at, text_at, blocks, Readable}
 use Rattle.store.specs.declared.store.Store.{Store}
 use Rattle.walk.proofs.Lowests.{none_some}
-use Rattle.walk.specs.Flows.{jump_flow, goal_flow, choice_flow, end_flow, operation_flow, flow, flows, flows_of}
-use Rattle.walk.specs.Walk.{flow_at, jumps_to, Fit}
+use Rattle.walk.specs.Flows.{jump_flow, goal_flow, choice_flow, end_flow, operation_flow, flow, flows}
+use Rattle.walk.specs.Walk.{jumps_to, Fit}
 use Rattle.walk.specs.declared.flows.Flow.{Flow}
 use Rattle.walk.specs.declared.flows.Flow.TheVariants.{Stop}
 use Rattle.checker.specs.Project.{project_of, Holds, flows_held, flows_in}

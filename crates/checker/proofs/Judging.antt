@@ -1,13 +1,13 @@
 -- The first fault of a block, of the blocks of some slots, and of a project.
-use Rattle.std.proofs.Common.{◌≡◌, ℕ, ◌+◌, ◌<◌, ◌≤◌, Bool, true, false, ◌⊎◌, length, IfOk, Some, None, Ok, Err, Decides, Option, Result, sym, refl, ap, ◌∙◌, subst, ap₂, inl, inr, ⊎_elim, arith, MatchResult}
-use Rattle.std.proofs.lemmas.Bool.{cases_lt, cases_eq, cases_order, both_ways}
+use Rattle.std.proofs.Common.{◌≡◌, ℕ, ◌+◌, ◌<◌, ◌≤◌, Bool, true, ◌⊎◌, length, IfOk, Some, None, Ok, Err, Decides, Option, Result, sym, refl, ap, ◌∙◌, subst, ap₂, inl, inr, ⊎_elim, arith, MatchResult}
+use Rattle.std.proofs.lemmas.Bool.{cases_lt, cases_order, both_ways}
 use Rattle.awl.specs.Order.{kind_rank, Before}
 use Rattle.awl.specs.declared.names.BlockKind.{BlockKind}
 use Rattle.awl.specs.declared.names.BlockKind.TheVariants.{Organisation, Program, Function}
 use Rattle.awl.specs.declared.names.BlockName.{BlockName}
 use Rattle.awl.specs.declared.refusals.Refusal.{Refusal}
-use Rattle.store.proofs.Holding.{name_has_slot, slot_has_name}
-use Rattle.store.specs.Held.{slot_of, name_at}
+use Rattle.store.proofs.Holding.{name_has_slot}
+use Rattle.store.specs.Held.{name_at}
 use Rattle.store.specs.declared.store.Store.{Store}
 use Rattle.walk.proofs.Lowests.{none_some}
 use Rattle.walk.proofs.Ways.{walk_in}
@@ -18,7 +18,7 @@ use Rattle.walk.specs.declared.faults.Fault.{Fault as FaultKind}
 use Rattle.checker.specs.Chains.{In}
 use Rattle.checker.specs.Inside.{BadAt, FirstIn, JudgesIn}
 use Rattle.checker.specs.Joins.{Reached, FirstTo, JudgesTo, FirstHere, JudgesHere, Earlier}
-use Rattle.checker.specs.Project.{Project, project_of, Holds, flows_in, outermost, Chain, Met, at, k9}
+use Rattle.checker.specs.Project.{Project, project_of, Holds, flows_in, outermost, Met, at, k9}
 use Rattle.checker.specs.Verdicts.{NotAfter, Passes, First, Judges, is_pass}
 use Rattle.checker.specs.declared.verdicts.Found.{Found}
 use Rattle.checker.specs.declared.verdicts.Verdict.{Verdict}

@@ -12,7 +12,7 @@ use Rattle.walk.specs.declared.flows.Flow.{Flow}
 use Rattle.walk.specs.declared.flows.Flow.TheVariants.{Plain, Open, Close, Jump, Branch, Call, End, MayEnd, Stop, Choose}
 use Rattle.walk.specs.declared.sights.Sight.{Sight}
 use Rattle.checker.specs.Inside.{Outward, k2, k7, k8, BadAt, outward_of, fault_seen}
-use Rattle.checker.specs.Project.{Project, Holds, Lays, flows_in}
+use Rattle.checker.specs.Project.{Project, flows_in}
 
 -- only a call and a choice have faults by what stands outside
 looks_out : Flow → Bool

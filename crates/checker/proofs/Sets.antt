@@ -1,5 +1,5 @@
 -- Sets of slots as bits, and what they hold of chains.
-use Rattle.std.proofs.Common.{◌≡◌, ℕ, zero, suc, ◌+◌, ◌-◌, ◌*◌, ◌/◌, ◌%◌, ◌^◌, ◌<◌, ◌≤◌, max, ◌⊎◌, List, get_or, sym, refl, ap, ◌∙◌, subst, inl, inr, ⊎_elim, one-mul, zero-add, add-one, arith}
+use Rattle.std.proofs.Common.{◌≡◌, ℕ, suc, ◌+◌, ◌-◌, ◌*◌, ◌/◌, ◌%◌, ◌^◌, ◌<◌, ◌≤◌, max, ◌⊎◌, List, get_or, refl, ap, ◌∙◌, subst, inl, inr, ⊎_elim, one-mul, zero-add, add-one, arith}
 use lib.Bits.{bit_or, or_step, or_shr, or_add_and, and_le_r}
 use Rattle.std.proofs.lemmas.Nat.{shr_le, shr_below, pow_below, shl-shr, pow-add}
 use Rattle.std.proofs.lemmas.Bool.{cases_lt, cases_eq, cases_order}

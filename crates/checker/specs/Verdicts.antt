@@ -4,7 +4,6 @@ use Rattle.awl.specs.Order.{Before}
 use Rattle.awl.specs.declared.names.BlockName.{BlockName}
 use Rattle.walk.specs.Faults.{fault_number}
 use Rattle.checker.specs.Project.{Project, Met}
-use Rattle.checker.specs.declared.verdicts.Found.{Found}
 use Rattle.checker.specs.declared.verdicts.Verdict.{Verdict}
 use Rattle.checker.specs.declared.verdicts.Verdict.TheVariants.{Pass, Fault}
 

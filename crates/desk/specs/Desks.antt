@@ -1,5 +1,5 @@
 -- What is answered to a line, and what the line leaves on the desk. It assumes nothing.
-use Rattle.std.specs.Prelude.{◌≡◌, ℕ, ◌-◌, Bool, cond, ◌&&◌, List, length, take, Some, None, codes, MatchBool, Option, ◌==◌, nat_le, slice_index}
+use Rattle.std.specs.Prelude.{◌≡◌, ℕ, ◌-◌, Bool, cond, ◌&&◌, List, length, take, Some, None, MatchBool, Option, ◌==◌, nat_le, slice_index}
 use Rattle.answers.specs.Written.{written}
 use Rattle.answers.specs.declared.Answer.{Answer}
 use Rattle.answers.specs.declared.Answer.TheVariants.{BadLine}

@@ -1,5 +1,7 @@
 // The program by which editors and scripts drive the engine over a pipe: a line in, a line out. It knows nothing of what a
 // call does.
+#![tactic(auto)]
+
 mod desks;
 
 use desks::Desk;

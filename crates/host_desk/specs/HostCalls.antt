@@ -1,5 +1,5 @@
 -- What the host calls answer, and what they make of the host that is there. It assumes nothing.
-use Rattle.std.specs.Prelude.{◌≡◌, ℕ, Bool, true, false, cond, List, map}
+use Rattle.std.specs.Prelude.{◌≡◌, ℕ, Bool, true, false, List, map}
 use Rattle.std.specs.List.{range_with_len}
 use Rattle.hosts.specs.Meaning.{Meaning, Advanced, given}
 use Rattle.answers.specs.declared.Answer.{Answer}

@@ -3,7 +3,7 @@ use Rattle.std.proofs.Common.{◌≡◌, ℕ, zero, suc, ◌+◌, ◌-◌, ◌<�
 use Rattle.std.proofs.lemmas.List.{drop_all, drop_more}
 use Rattle.std.proofs.lemmas.Bool.{cases_lt, cond-false, cond-true, le-ltb, lt-ltb}
 use Rattle.hosts.specs.declared.lines.Frame.{Frame}
-use Rattle.hosts.specs.Feeds.{Standing, frame_at, start, taken_from, fed, shown, zeros}
+use Rattle.hosts.specs.Feeds.{Standing, frame_at, taken_from, fed, shown, zeros}
 
 -- a feed stands at a frame, with these ahead, or past the last frame
 abbrev at_frame : List Frame → Frame → Standing

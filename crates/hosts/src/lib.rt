@@ -1,5 +1,6 @@
 // Where a scan's inputs come from and where its outputs go: the interface `Host`, and three hosts.
 // It knows nothing of statements, blocks or machines.
+#![tactic(auto)]
 
 ghost use Rattle.std.specs.Prelude.{◌≡◌, ℕ};
 ghost use Rattle.hosts.specs.Meaning.{Meaning, Ranged, Beyond, Advanced, given};

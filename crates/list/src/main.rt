@@ -1,5 +1,7 @@
 // The listing of a block's text: its statements numbered, its marks and its jumps counted, or its fault with the line
 // where it stands. It knows nothing of projects, checks or machines.
+#![tactic(auto)]
+
 mod counts;
 mod lines;
 mod pages;

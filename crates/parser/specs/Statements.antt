@@ -1,6 +1,6 @@
 -- What a statement is: which operation takes which operand, and how the words behind the colon are read.
 -- It assumes nothing.
-use Rattle.std.specs.Prelude.{ℕ, Bool, true, false, cond, List, Some, None, Ok, Err, Option, Result}
+use Rattle.std.specs.Prelude.{ℕ, Bool, true, false, cond, Some, None, Ok, Err, Option, Result}
 use Rattle.awl.specs.Written.{Operand, none, operation_of, operand_of, target_of}
 use Rattle.awl.specs.declared.statements.Combination.TheVariants as combine
 use Rattle.awl.specs.declared.statements.JumpCondition.TheVariants as jump

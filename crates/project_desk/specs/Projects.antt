@@ -1,7 +1,6 @@
 -- What the project calls answer, and what they make of the project that is open. It assumes nothing.
 use Rattle.std.specs.Prelude.{◌≡◌, ℕ, Bool, cond, ◌&&◌, List, Some, None, Option, nat_le}
 use Rattle.std.specs.Option.{option_map}
-use Rattle.awl.specs.declared.names.BlockName.{BlockName}
 use Rattle.awl.specs.declared.refusals.Refusal.TheVariants.{ShortTable}
 use Rattle.reader.specs.Reading.{reading}
 use Rattle.store.specs.Calls.{write_answer, blocks_written, count_written, erase_answer, blocks_erased, count_erased, lay_answer, data_laid, count_laid}

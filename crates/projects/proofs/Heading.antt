@@ -1,5 +1,5 @@
 -- Which lines are heads, and what a head says. Assumes nothing.
-use Rattle.std.proofs.Common.{◌≡◌, ℕ, ◌+◌, ◌<◌, ◌≤◌, Bool, true, false, cond, eqb, ltb, List, [], ◌∷◌, length, get_or, Ok, Err, Result, sym, refl, ap, ◌∙◌, arith, le-ltb, lt-ltb}
+use Rattle.std.proofs.Common.{◌≡◌, ℕ, ◌+◌, ◌≤◌, Bool, false, cond, eqb, List, [], ◌∷◌, length, get_or, Err, Result, sym, refl, ap, ◌∙◌, arith, le-ltb}
 use Rattle.std.specs.List.{prefix_len}
 use Rattle.awl.specs.Alphabet.{in_class}
 use Rattle.awl.specs.declared.bytes.ByteClass.TheVariants.{Printable}

@@ -8,7 +8,6 @@ use Rattle.reader.specs.Lines.{lines_of, holds}
 use Rattle.projects.specs.Heads.{is_head, head_of}
 use Rattle.projects.specs.declared.heads.Head.{Head}
 use Rattle.projects.specs.declared.heads.Head.TheVariants.{Block, Data}
-use Rattle.projects.specs.declared.heads.HeadFault.{HeadFault}
 use Rattle.projects.specs.declared.sections.FileFault.{FileFault}
 use Rattle.projects.specs.declared.sections.FileFault.TheVariants as fault
 use Rattle.projects.specs.declared.sections.Section.{Section}

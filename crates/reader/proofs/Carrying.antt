@@ -1,5 +1,5 @@
 -- The listed statements: one more, and the search for the statement that carries a mark. Assumes nothing.
-use Rattle.std.proofs.Common.{◌≡◌, ℕ, ◌+◌, ◌<◌, ◌≤◌, Bool, true, false, cond, List, [], ◌∷◌, ◌++◌, map, length, get_or, take, drop, set, Some, None, Option, sym, refl, ap, ◌∙◌, arith}
+use Rattle.std.proofs.Common.{◌≡◌, ℕ, ◌+◌, ◌<◌, ◌≤◌, Bool, true, false, cond, List, [], ◌∷◌, ◌++◌, map, length, get_or, take, drop, set, Some, None, ap, ◌∙◌, arith}
 use Rattle.std.proofs.lemmas.List.{take_more_set, map_push, at_drop_more, at_drop_all, get_or-map, get_or-take, length-map, length-take-le, map_more, take_all}
 use Rattle.reader.specs.Listed.{entry, listed}
 use Rattle.reader.specs.Reading.{Entry, carries_mark, carrier_from}

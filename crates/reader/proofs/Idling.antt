@@ -1,5 +1,5 @@
 -- A blank or comment line put in anywhere only moves the lines behind it. Assumes nothing.
-use Rattle.std.proofs.Common.{◌≡◌, ℕ, suc, ◌+◌, ◌<◌, ◌≤◌, Bool, true, false, cond, not, ◌&&◌, eqb, ltb, leb, ◌⊎◌, List, [], ◌∷◌, ◌++◌, map, length, Some, None, Ok, Err, Option, Result, sym, refl, ap, ◌∙◌, subst, inl, inr, arith, le-ltb, lt-ltb}
+use Rattle.std.proofs.Common.{◌≡◌, ℕ, suc, ◌+◌, ◌<◌, ◌≤◌, Bool, true, false, cond, ◌&&◌, eqb, ltb, leb, List, [], ◌∷◌, ◌++◌, map, length, None, Ok, Err, Option, Result, sym, refl, ap, ◌∙◌, subst, inl, inr, arith, le-ltb, lt-ltb}
 use Rattle.std.specs.Option.{option_to_list}
 use Rattle.std.specs.List.{prefix_len}
 use Rattle.std.proofs.lemmas.List.{append-nil, append_assoc, map-append}
@@ -7,9 +7,9 @@ use Rattle.std.proofs.lemmas.Bool.Decides.{nat_tests}
 use Rattle.awl.specs.Alphabet.{in_class}
 use Rattle.awl.specs.declared.bytes.ByteClass.TheVariants.{Printable}
 use Rattle.parser.specs.Answers.{map_ok, map_err, and_then}
-use Rattle.reader.specs.Laws.{block_at, entry_at, moved_down, WholeLines, Idle, renumbered, IdleLinesOnlyMove}
-use Rattle.reader.specs.Lines.{lines_of, prepend, holds, sound}
-use Rattle.reader.specs.Reading.{Entry, line_entry, line_read, lines_read, some_read, resolved, reading}
+use Rattle.reader.specs.Laws.{entry_at, moved_down, WholeLines, Idle, IdleLinesOnlyMove}
+use Rattle.reader.specs.Lines.{lines_of, prepend}
+use Rattle.reader.specs.Reading.{Entry, line_read, lines_read, some_read, resolved, reading}
 use Rattle.reader.specs.declared.faults.LineFault.TheVariants.{Byte}
 use Rattle.reader.specs.declared.faults.BlockFault.{BlockFault}
 use Rattle.reader.specs.declared.faults.BlockFault.TheVariants.{Line}

@@ -1,20 +1,18 @@
 -- Every block that is read keeps the laws of reading. Assumes nothing.
-use Rattle.std.proofs.Common.{◌≡◌, ℕ, zero, suc, ◌+◌, ◌-◌, ◌<◌, ◌≤◌, Bool, true, false, cond, ltb, leb, List, [], ◌∷◌, ◌++◌, map, length, get_or, is_some, Some, None, Ok, Err, Option, Result, sym, refl, ap, ◌∙◌, subst, arith, leb-false, MatchOption}
+use Rattle.std.proofs.Common.{◌≡◌, ℕ, ◌+◌, ◌-◌, ◌<◌, ◌≤◌, Bool, true, false, cond, ltb, leb, List, [], ◌∷◌, ◌++◌, map, length, get_or, is_some, Some, None, Ok, Err, Option, Result, sym, refl, ap, ◌∙◌, subst, arith, leb-false, MatchOption}
 use Rattle.std.specs.Option.{option_map, option_to_list}
 use Rattle.std.specs.List.{prefix_len}
 use Rattle.awl.specs.Alphabet.{in_class}
 use Rattle.awl.specs.declared.bytes.ByteClass.TheVariants.{Printable}
 use Rattle.std.proofs.lemmas.List.{length_push, length-map, get_or-map, append-nil}
-use Rattle.awl.specs.Written.{Operand, none, bit, span, timer, counter, data_place, byte_constant, double_constant, mark, block, data_block, operand_of}
+use Rattle.awl.specs.Written.{Operand, none, bit, span, timer, counter, data_place, byte_constant, double_constant, mark, block, data_block}
 use Rattle.lexer.specs.Words.{Piece, words_from}
 use Rattle.parser.specs.Answers.{map_ok, map_err, and_then}
-use Rattle.parser.specs.Statements.{Written, statement_of}
+use Rattle.parser.specs.Statements.{statement_of}
 use Rattle.reader.specs.Laws.{InRange, Carries, NoneCarries, Lawful}
-use Rattle.reader.specs.Lines.{Head, head_of, holds, sound, lines_of, code_of, line_end}
+use Rattle.reader.specs.Lines.{head_of, holds, sound, lines_of, code_of, line_end}
 use Rattle.reader.specs.Reading.{Entry, carrier, fresh_mark, entry_of, line_entry, line_read, lines_read, some_read, leads_to, resolved, reading}
-use Rattle.reader.specs.declared.faults.LineFault.{LineFault}
 use Rattle.reader.specs.declared.faults.LineFault.TheVariants.{Byte, Word}
-use Rattle.reader.specs.declared.faults.BlockFault.{BlockFault}
 use Rattle.reader.specs.declared.faults.BlockFault.TheVariants.{Line, MarkTwice, Full, Empty}
 use Rattle.reader.proofs.Marking.{Once, once_more, none_carries, carrier_law}
 

@@ -1,5 +1,5 @@
 -- The lines of a text, one after another. Assumes nothing.
-use Rattle.std.proofs.Common.{◌≡◌, ℕ, suc, ◌+◌, ◌<◌, ◌≤◌, Bool, true, false, cond, not, eqb, List, [], ◌∷◌, ◌++◌, map, length, take, drop, Some, None, Ok, Err, Option, Result, sym, refl, ap, ◌∙◌, arith}
+use Rattle.std.proofs.Common.{◌≡◌, ℕ, suc, ◌+◌, ◌<◌, ◌≤◌, Bool, true, false, cond, not, eqb, List, [], ◌∷◌, ◌++◌, map, length, take, drop, Ok, Err, Option, Result, sym, refl, ap, ◌∙◌, arith}
 use Rattle.std.specs.Option.{option_to_list}
 use Rattle.std.specs.List.{prefix_len}
 use Rattle.std.proofs.lemmas.List.{drop-drop, drop_all, length-take-le, length-drop}
@@ -8,7 +8,7 @@ use Rattle.awl.specs.Alphabet.{in_class}
 use Rattle.awl.specs.declared.bytes.ByteClass.TheVariants.{InLine}
 use Rattle.parser.specs.Answers.{map_ok, and_then}
 use Rattle.reader.specs.Lines.{lines_of, prepend, first_line}
-use Rattle.reader.specs.Reading.{Entry, line_entry, line_read, lines_read, some_read, resolved, reading}
+use Rattle.reader.specs.Reading.{Entry, line_entry, lines_read, some_read, resolved, reading}
 use Rattle.reader.specs.declared.faults.BlockFault.{BlockFault}
 use Rattle.reader.specs.declared.faults.BlockFault.TheVariants.{Empty}
 

@@ -1,5 +1,5 @@
 -- Lines counted another way: each step of reading says the same, at the new number. Assumes nothing.
-use Rattle.std.proofs.Common.{◌≡◌, ℕ, ◌+◌, Bool, true, false, cond, ◌&&◌, ltb, leb, List, [], ◌∷◌, ◌++◌, map, length, take, is_some, Some, None, Ok, Err, Option, Result, sym, refl, ap, ◌∙◌, subst}
+use Rattle.std.proofs.Common.{◌≡◌, ℕ, ◌+◌, Bool, true, false, cond, ◌&&◌, ltb, leb, List, [], ◌∷◌, ◌++◌, map, length, take, is_some, Some, None, Ok, Err, Option, Result, sym, refl, ap, ◌∙◌}
 use Rattle.std.specs.Option.{option_map, option_to_list}
 use Rattle.std.specs.List.{prefix_len}
 use Rattle.std.proofs.lemmas.List.{length-map, map-append}
@@ -26,7 +26,7 @@ use Rattle.reader.specs.Reading.{Entry, carries_mark, carrier_from, carrier, fre
 use Rattle.reader.specs.declared.faults.LineFault.{LineFault}
 use Rattle.reader.specs.declared.faults.LineFault.TheVariants.{Byte, Colon, Word}
 use Rattle.reader.specs.declared.faults.BlockFault.{BlockFault}
-use Rattle.reader.specs.declared.faults.BlockFault.TheVariants.{Line, MarkTwice, Full, Empty}
+use Rattle.reader.specs.declared.faults.BlockFault.TheVariants.{Line, MarkTwice, Full}
 
 -- one answer after another, where M moves what the second answers and g what the first refuses
 and_then_moves : {X Y Z E F : Type 0} (g : E → F) (M : Result Y E → Result Z F) → ((e : E) → M (Err e) ≡ Err (g e)) → (r : Result X E) (s : Result X F) (K : X → Result Y E) (L : X → Result Z F) → s ≡ map_err g r → ((x : X) → L x ≡ M (K x)) → and_then s L ≡ M (and_then r K)

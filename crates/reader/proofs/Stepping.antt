@@ -1,10 +1,9 @@
 -- One line of a text, by what it holds. Assumes nothing.
-use Rattle.std.proofs.Common.{◌≡◌, ℕ, ◌<◌, ◌≤◌, Bool, true, false, cond, leb, List, [], ◌∷◌, ◌++◌, length, Some, None, Ok, Err, Result, sym, ap, ◌∙◌, le-leb}
+use Rattle.std.proofs.Common.{◌≡◌, ℕ, ◌<◌, ◌≤◌, Bool, true, false, cond, leb, List, length, Some, None, Err, le-leb}
 use borrow.Author.Tests.{lt-leb}
 use Rattle.parser.specs.Answers.{map_ok, map_err}
 use Rattle.reader.specs.Lines.{holds, sound}
 use Rattle.reader.specs.Reading.{Entry, entry_of, line_entry}
-use Rattle.reader.specs.declared.faults.BlockFault.{BlockFault}
 use Rattle.reader.specs.declared.faults.BlockFault.TheVariants.{Line, Full}
 
 -- a line that holds a statement, with the test whether 255 are listed

@@ -1,5 +1,5 @@
 -- The laws of reading, in the words of its subject. It assumes nothing.
-use Rattle.std.specs.Prelude.{◌≡◌, ℕ, ◌+◌, ◌-◌, ◌<◌, ◌≤◌, false, cond, ◌⊎◌, List, [], ◌∷◌, ◌++◌, map, length, Some, None, Option, Result, MatchOption, ◌≢◌, nat_lt, slice_index_or}
+use Rattle.std.specs.Prelude.{◌≡◌, ℕ, ◌+◌, ◌-◌, ◌<◌, ◌≤◌, false, cond, ◌⊎◌, List, [], ◌∷◌, ◌++◌, map, length, Some, Result, MatchOption, ◌≢◌, nat_lt, slice_index_or}
 use Rattle.std.specs.List.{prefix_len}
 use Rattle.awl.specs.Alphabet.{in_class}
 use Rattle.awl.specs.Reach.{free_bytes, bytes_of, words_of}

@@ -1,11 +1,11 @@
 -- The reading of a text: line after line into statements, then each jump to the statement that carries its mark.
 -- It assumes nothing.
-use Rattle.std.specs.Prelude.{ℕ, ◌+◌, Bool, true, false, cond, List, [], ◌∷◌, ◌++◌, map, length, is_some, Some, None, Ok, Err, Option, Result, nat_le}
+use Rattle.std.specs.Prelude.{ℕ, ◌+◌, Bool, false, cond, List, [], ◌∷◌, ◌++◌, map, length, is_some, Some, None, Ok, Err, Option, Result, nat_le}
 use Rattle.std.specs.Option.{option_map, option_to_list}
 use Rattle.std.specs.Str.{bytes_eq}
 use Rattle.awl.specs.Written.{Operand, none, bit, span, timer, counter, data_place, byte_constant, double_constant, mark, block, data_block}
 use Rattle.parser.specs.Answers.{map_ok, map_err, and_then}
-use Rattle.reader.specs.Lines.{lines_of, code_of, holds, line_end, sound, Head, head_of}
+use Rattle.reader.specs.Lines.{lines_of, code_of, holds, line_end, sound, head_of}
 use Rattle.parser.specs.Statements.{Written, statement_of}
 use Rattle.lexer.specs.Words.{Piece, words_from}
 use Rattle.reader.specs.declared.faults.LineFault.TheVariants.{Word}

@@ -1,5 +1,5 @@
 -- The report on a block's fault from its parts. Assumes nothing.
-use Rattle.std.proofs.Common.{◌≡◌, ℕ, List, refl, ap, ◌∙◌}
+use Rattle.std.proofs.Common.{◌≡◌, ℕ, List, refl, ◌∙◌}
 use Rattle.awl.specs.declared.refusals.Refusal.{Refusal}
 use Rattle.reader.specs.Faults.{block_refusal}
 use Rattle.reader.specs.declared.faults.BlockFault.{BlockFault}

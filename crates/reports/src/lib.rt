@@ -1,5 +1,7 @@
 // The report on a text that is refused: what is wrong in plain words, the line where it stands, and a caret under the
 // column. It knows nothing of how a text is read or where it comes from.
+#![tactic(auto)]
+
 pub mod lines;
 pub mod refused;
 pub mod shown;

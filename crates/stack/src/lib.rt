@@ -1,5 +1,6 @@
 // One bounded stack over a slice that its maker lends, written once for every element type.
 // It allocates nothing, and knows nothing of what its elements mean or who lends the slice.
+#![tactic(auto)]
 
 ghost use Rattle.std.specs.Prelude.{◌≡◌, ◌+◌, ◌-◌, ◌≤◌, length, if◌then◌else◌, slice_set};
 ghost use Rattle.stack.specs.Held.{held, clamped, room, pushed, written, Popped, Topmost};

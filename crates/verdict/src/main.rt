@@ -1,5 +1,7 @@
 // The verdict on the project file at standard input: whether the project can ever get stuck, and where. It knows nothing
 // of how a project is read or checked.
+#![tactic(auto)]
+
 use anyhow::anyhow;
 use std::io::Read;
 use verdicts::pages::Page;

@@ -1,5 +1,5 @@
 -- A store filled section by section. Assumes nothing.
-use Rattle.std.proofs.Common.{◌≡◌, ℕ, ◌+◌, ◌<◌, ◌≤◌, cond, List, [], ◌∷◌, map, length, get_or, drop, is_ok, IsErrAnd, Ok, Err, Result, sym, refl, ap, ◌∙◌}
+use Rattle.std.proofs.Common.{◌≡◌, ℕ, ◌+◌, ◌<◌, ◌≤◌, cond, List, map, length, get_or, drop, is_ok, IsErrAnd, Ok, Err, Result, sym, ap, ◌∙◌}
 use Rattle.std.proofs.lemmas.List.{at_drop_more, at_drop_all}
 use Rattle.parser.specs.Answers.{and_then}
 use Rattle.projects.specs.Sections.{Cut, seen_section}

@@ -1,5 +1,5 @@
 -- The page on the sections of a file. Assumes nothing.
-use Rattle.std.proofs.Common.{◌≡◌, ℕ, List, IfOk, Ok, Err, Result, sym, ap, ◌∙◌, subst}
+use Rattle.std.proofs.Common.{◌≡◌, ℕ, List, IfOk, Ok, Result, ap, ◌∙◌, subst}
 use Rattle.projects.specs.Sections.{Cut}
 use Rattle.verdicts.specs.Loading.{Held, load_answer, load_after}
 use Rattle.verdicts.specs.Pages.{empty, JudgedPage, CutPage}

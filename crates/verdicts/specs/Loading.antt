@@ -1,5 +1,5 @@
 -- The sections of a project file put into a store, one after another. It assumes nothing.
-use Rattle.std.specs.Prelude.{ℕ, cond, List, [], ◌∷◌, is_ok, Ok, Err, Result}
+use Rattle.std.specs.Prelude.{ℕ, cond, List, [], ◌∷◌, is_ok, Ok, Result}
 use Rattle.awl.specs.declared.refusals.Refusal.TheVariants as refusal
 use Rattle.parser.specs.Answers.{and_then, map_err}
 use Rattle.reader.specs.Reading.{reading}

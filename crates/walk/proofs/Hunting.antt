@@ -1,14 +1,14 @@
 -- The search of a walk, step by step.
-use Rattle.std.proofs.Common.{◌≡◌, ℕ, ◌+◌, ◌-◌, ◌*◌, ◌<◌, ◌≤◌, Bool, true, false, cond, not, ◌⊎◌, List, [], ◌∷◌, length, get_or, set, replicate, IfSome, Some, None, Option, sym, refl, ap, ◌∙◌, subst, inl, inr, ⊎_elim, arith}
+use Rattle.std.proofs.Common.{◌≡◌, ℕ, ◌+◌, ◌-◌, ◌*◌, ◌<◌, ◌≤◌, Bool, true, false, cond, not, List, [], ◌∷◌, length, get_or, set, replicate, IfSome, Some, None, Option, sym, refl, ap, ◌∙◌, subst, inl, inr, ⊎_elim, arith}
 use Rattle.std.proofs.lemmas.List.{length-set, length-replicate, get_or-set_same, get_or-set_other, get_or-replicate, get_or_past, set-get_or}
 use Rattle.std.proofs.lemmas.List.Sums.{sum_by-set, count_by-le-length}
 use Rattle.std.proofs.lemmas.Bool.{cases_lt, cases_eq, both_ways}
 use Rattle.walk.specs.declared.flows.Flow.{Flow}
 use Rattle.walk.specs.declared.places.Place.{Place}
 use Rattle.walk.specs.Places.{place_at, on_from, jump_from}
-use Rattle.walk.specs.Search.{spot, Marked, unmarked, marking, joining, Among, Hunt, Exact}
+use Rattle.walk.specs.Search.{spot, Marked, unmarked, marking, joining, Hunt, Exact}
 use Rattle.walk.specs.Walk.{Goes, OnWalk, start, on, Fit}
-use Rattle.walk.proofs.Ways.{Inside, walk_in, goes_found, on_goes, jump_goes}
+use Rattle.walk.proofs.Ways.{walk_in, goes_found, on_goes, jump_goes}
 
 -- one mark more
 unmarked-set : (seen : List Bool) (i : ℕ) → i < length seen → get_or seen i false ≡ false → unmarked (set seen i true) + 1 ≡ unmarked seen

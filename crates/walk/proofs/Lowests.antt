@@ -1,5 +1,5 @@
 -- The lowest fault of a statement, and the lower of two.
-use Rattle.std.proofs.Common.{◌≡◌, ℕ, ◌≤◌, Bool, true, false, cond, ◌&&◌, eqb, ltb, leb, ◌⊎◌, Some, None, Option, sym, refl, subst, inl, inr, ⊎_elim, arith}
+use Rattle.std.proofs.Common.{◌≡◌, ℕ, Bool, true, false, cond, ◌&&◌, eqb, ltb, leb, ◌⊎◌, Some, None, Option, sym, refl, inl, inr, ⊎_elim, arith}
 use Rattle.std.proofs.lemmas.Bool.{and_parts, and_from, eqb-true, eq-eqb, ltb-true, lt-ltb, leb-true, leb-false}
 use Rattle.walk.specs.declared.faults.Fault.{Fault}
 use Rattle.walk.specs.declared.faults.Fault.TheVariants.{MarkMissing, SixthBracket, NoneOpen, BracketsOpen, RunsOut}

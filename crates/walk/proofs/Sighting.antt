@@ -1,5 +1,5 @@
 -- A statement's sight, from the marks of its places.
-use Rattle.std.proofs.Common.{◌≡◌, ℕ, ◌+◌, ◌-◌, ◌<◌, ◌≤◌, Bool, true, false, ◌⊎◌, List, length, get_or, set, Decides, Option, sym, refl, ap, ◌∙◌, subst, inl, inr, ⊎_elim, arith}
+use Rattle.std.proofs.Common.{◌≡◌, ℕ, ◌+◌, ◌-◌, ◌<◌, ◌≤◌, Bool, true, ◌⊎◌, List, length, get_or, set, Decides, Option, sym, ap, ◌∙◌, subst, inl, inr, ⊎_elim, arith}
 use Rattle.std.proofs.lemmas.List.{get_or-set_same, get_or-set_other}
 use Rattle.std.proofs.lemmas.Bool.{cases_lt, cases_eq}
 use Rattle.walk.specs.declared.faults.Fault.{Fault}
@@ -8,7 +8,7 @@ use Rattle.walk.specs.declared.sights.Sight.{Sight}
 use Rattle.walk.specs.Findings.{ComesBelow, Comes, MeetsBelow, Meets, Sighted, SightedTo, unseen}
 use Rattle.walk.specs.Places.{Lowest, lower_of, fault_at, place_at}
 use Rattle.walk.specs.Search.{Marked, Exact}
-use Rattle.walk.specs.Walk.{flow_at, HasAt, OnWalk, Fit}
+use Rattle.walk.specs.Walk.{HasAt, OnWalk, Fit}
 use Rattle.walk.proofs.Lowests.{lower_lowest, lowest_like}
 use Rattle.walk.proofs.Ways.{low_at, walk_in}
 

@@ -1,12 +1,12 @@
 -- Where the walk goes on, and that it stays in its block.
-use Rattle.std.proofs.Common.{◌≡◌, ℕ, ◌+◌, ◌-◌, ◌<◌, ◌≤◌, Bool, true, false, ◌⊎◌, List, length, Some, None, Option, sym, refl, ap, ◌∙◌, inl, inr, ⊎_elim, arith}
+use Rattle.std.proofs.Common.{◌≡◌, ℕ, ◌-◌, ◌<◌, ◌≤◌, Bool, true, false, ◌⊎◌, List, length, Some, None, Option, sym, refl, ap, inl, inr, ⊎_elim, arith}
 use Rattle.std.proofs.lemmas.Bool.{cases_eq}
 use Rattle.walk.specs.declared.faults.Fault.{Fault}
 use Rattle.walk.specs.declared.flows.Flow.{Flow}
 use Rattle.walk.specs.declared.flows.Flow.TheVariants.{Plain, Open, Close, Jump, Branch, Call, End, MayEnd, Stop, Choose}
 use Rattle.walk.specs.declared.places.Place.{Place}
 use Rattle.walk.specs.Places.{Lowest, place_at, unless, stepped, jumped, fault_at, on_from, jump_from}
-use Rattle.walk.specs.Walk.{Has, k3, k6, goes_on, leaves, jumps_to, flow_at, HasAt, Goes, next, jump, OnWalk, start, on, Fit}
+use Rattle.walk.specs.Walk.{Has, k3, k6, goes_on, leaves, flow_at, HasAt, Goes, next, jump, OnWalk, start, on, Fit}
 use Rattle.walk.proofs.Lowests.{none_some, none_broken, none_lowest, lowest_of}
 
 pub low_at : (block : List Flow) (p : Place) → Lowest (fault_at block p) (HasAt block p.statement p.brackets)

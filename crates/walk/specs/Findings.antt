@@ -1,10 +1,9 @@
 -- What the walk found at each statement of a block. It assumes nothing.
-use Rattle.std.specs.Prelude.{◌≡◌, ℕ, ◌-◌, ◌<◌, ◌≤◌, Bool, false, List, length, None, Decides, slice_index_or}
+use Rattle.std.specs.Prelude.{◌≡◌, ℕ, ◌-◌, ◌<◌, ◌≤◌, false, List, length, None, Decides, slice_index_or}
 use Rattle.walk.specs.declared.flows.Flow.{Flow}
 use Rattle.walk.specs.declared.flows.Flow.TheVariants.{Stop}
 use Rattle.walk.specs.declared.sights.Sight.{Sight}
 use Rattle.walk.specs.Places.{Lowest}
-use Rattle.walk.specs.Search.{Marked}
 use Rattle.walk.specs.Walk.{flow_at, HasAt, OnWalk}
 
 -- the walk comes to a statement with fewer than n brackets open

@@ -1,4 +1,4 @@
-use Rattle.std.proofs.Common.{◌≡◌, List, sym, ap, ◌∙◌, subst}
+use Rattle.std.proofs.Common.{List, sym, ap, ◌∙◌, subst}
 use Rattle.walk.specs.Findings.{Found}
 use Rattle.walk.specs.Flows.{flows}
 use Rattle.walk.specs.Walk.{Fit}
@@ -10,7 +10,7 @@ pub returns-in-Some : goal.returns-in-Some
 returns-in-Some c = record {
   value = λ b named.
       let is = flows_at c.args.store.now c.args.slot b named in
-      subst (λ (block : List Flow). Found block c.in-Some.finding.sights c.in-Some.finding.count) (sym (is ∙ sym (ap flows c.statements-at.ensures.value))) c.in-Some.ensures.value;
+      subst (λ (block : List Flow). Found block c.in-Some.finding.sights c.in-Some.finding.count) (sym (is ∙ sym (ap flows c.statements_at.ensures.value))) c.in-Some.ensures.value;
   rest = c.in-Some.ensures.rest;
 }
 
@@ -18,7 +18,7 @@ pub returns-in-None : goal.returns-in-None
 returns-in-None c = record {
   value = λ b named.
       let is = flows_at c.args.store.now c.args.slot b named in
-      let fit = subst (λ (block : List Flow). Fit block) (is ∙ sym (ap flows c.statements-at.ensures.value)) (fit_at c.args.store.now c.args.slot b named) in
+      let fit = subst (λ (block : List Flow). Fit block) (is ∙ sym (ap flows c.statements_at.ensures.value)) (fit_at c.args.store.now c.args.slot b named) in
       absurd (c.in-None.ensures.value fit c.requires);
   rest = c.in-None.ensures.rest;
 }

@@ -7,7 +7,7 @@ pub loop-slot-preserved : goal.loop-slot-preserved
 loop-slot-preserved c =
     let inside = c.loop-slot-test.true in
     let size = c.loop-slot.invariant.1 in (
-      found_more c.args.store.now c.loop-slot.findings c.loop-slot.slot _ (omega arith) c.finding-at.ensures.value c.loop-slot.invariant.0,
+      found_more c.args.store.now c.loop-slot.findings c.loop-slot.slot _ (omega arith) c.finding_at.ensures.value c.loop-slot.invariant.0,
       length-set _ _ _ ∙ size,
-      c.finding-at.ensures.rest ∙ c.loop-slot.invariant.2,
+      c.finding_at.ensures.rest ∙ c.loop-slot.invariant.2,
     )

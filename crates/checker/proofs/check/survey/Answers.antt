@@ -1,10 +1,10 @@
-use Rattle.std.proofs.Common.{◌≡◌, List, ◌++◌, replicate, ap, ◌∙◌}
+use Rattle.std.proofs.Common.{List, ◌++◌, replicate, ap, ◌∙◌}
 use Rattle.walk.specs.Places.{place_at}
 use Rattle.walk.specs.declared.places.Place.{Place}
 use Rattle.checker.proofs.check.survey.Goals as goal
 
 pub returns : goal.returns
 returns c = record {
-  value = c.findings-of-findings.ensures.value;
-  after = c.clear.ensures.after ∙ ap (λ (l : List Place). replicate 1530 (place_at 0 0) ++ l) c.findings-of-findings.ensures.rest;
+  value = c.findings_of-findings.ensures.value;
+  after = c.clear.ensures.after ∙ ap (λ (l : List Place). replicate 1530 (place_at 0 0) ++ l) c.findings_of-findings.ensures.rest;
 }

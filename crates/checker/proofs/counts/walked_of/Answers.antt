@@ -1,32 +1,31 @@
-use Rattle.std.proofs.Common.{◌≡◌, ℕ, ◌+◌, List, get_or, take, sum_by, sym, ap, ◌∙◌, subst, arith}
-use Rattle.store.specs.declared.slots.Slot.{Slot}
+use Rattle.std.proofs.Common.{◌≡◌, sum_by, sym, ap, ◌∙◌, arith}
 use Rattle.walk.specs.declared.sights.Finding.{Finding}
 use Rattle.checker.specs.Counts.{of_name, seen_of}
 use Rattle.checker.proofs.Counting.{added, adds, sum_more, counts_all, some_finding, all_slots}
 use Rattle.checker.proofs.Fitting.{some_is, none_is}
 use Rattle.checker.proofs.counts.walked_of.Goals as goal
-use Rattle.checker.proofs.counts.walked_of.Goals.{then-is-some, else-is-some}
+use Rattle.checker.proofs.counts.walked_of.Goals.{then-is_some, else-is_some}
 
 pub loop-slot-preserved : goal.loop-slot-preserved
 loop-slot-preserved c =
     let store = c.args.store.now in
     let findings = c.args.findings.now in
-    let reach = c.reach-of-reach.result in
+    let reach = c.reach_of-reach.result in
     let i = c.loop-slot.slot in
     let inside = c.loop-slot-test.true in
     let inv = c.loop-slot.invariant in
     let high = inv.1 in
-    elim c.if-is-some.branch [
-      | then-is-some w ↦
-          let found = some_is c.name-at.result (sym c.is-some.ensures ∙ w.if-is-some.true) in
-          let named = sym c.name-at.ensures.value ∙ found.1 in
-          let few = w.walked-at-total.ensures.bound in
+    elim c.if-is_some.branch [
+      | then-is_some w ↦
+          let found = some_is c.name_at.result (sym c.is_some.ensures ∙ w.if-is_some.true) in
+          let named = sym c.name_at.ensures.value ∙ found.1 in
+          let few = w.walked_at-total.ensures.bound in
           let is = w.total-is in (
-            λ d. is ∙ sum_more store findings reach d i c.loop-slot.total _ inside (w.walked-at-total.ensures.value d ∙ sym (adds store findings reach d i found.0 named)) (inv.0 d),
+            λ d. is ∙ sum_more store findings reach d i c.loop-slot.total _ inside (w.walked_at-total.ensures.value d ∙ sym (adds store findings reach d i found.0 named)) (inv.0 d),
             omega arith,
           )
-      | else-is-some w ↦
-          let free = sym c.name-at.ensures.value ∙ none_is c.name-at.result (sym c.is-some.ensures ∙ w.if-is-some.false) in
+      | else-is_some w ↦
+          let free = sym c.name_at.ensures.value ∙ none_is c.name_at.result (sym c.is_some.ensures ∙ w.if-is_some.false) in
           let is = w.total-is in (
             λ d. let e = sum_more store findings reach d i c.loop-slot.total 0 inside (sym (ap (of_name (seen_of store findings reach d)) free)) (inv.0 d) in omega arith,
             omega arith,
@@ -37,8 +36,8 @@ pub returns : goal.returns
 returns c =
     let store = c.args.store.now in
     let findings = c.args.findings.now in
-    let reach = c.reach-of-reach.result in
+    let reach = c.reach_of-reach.result in
     let d : Finding = some_finding findings (let long = c.told-findings in omega arith) in
     let end : c.loop-slot.slot ≡ 32 = (let low = c.loop-slot-test.false in let high = c.loop-slot.auto.slot-end in omega arith) in
     let all = all_slots store c.loop-slot.slot end in
-    record { value = counts_all store findings reach d c.loop-slot.total c.requires c.reach-of-reach.ensures.value (c.loop-slot.invariant.0 d ∙ ap (sum_by (added store findings reach d)) all) }
+    record { value = counts_all store findings reach d c.loop-slot.total c.requires c.reach_of-reach.ensures.value (c.loop-slot.invariant.0 d ∙ ap (sum_by (added store findings reach d)) all) }

@@ -1,9 +1,7 @@
-use Rattle.std.proofs.Common.{◌≡◌, ℕ, ◌+◌, sym, ap, subst, arith}
+use Rattle.std.proofs.Common.{◌≡◌, ℕ, ◌+◌, sym, subst, arith}
 use lib.Bits.{bit_or}
-use Rattle.store.specs.Held.{slot_of}
 use Rattle.walk.specs.declared.sights.Sight.{Sight}
 use Rattle.walk.specs.Findings.{Sighted}
-use Rattle.checker.specs.Inside.{entered_by}
 use Rattle.checker.specs.Joins.{EntersTo}
 use Rattle.checker.specs.Project.{project_of, flows_in}
 use Rattle.checker.proofs.Entering.{enters_none, enters_more}
@@ -19,7 +17,7 @@ loop-i-preserved c b of =
     let inside = c.loop-i-test.true in
     let size = of.size in
     let seen = subst (λ (x : Sight). Sighted (flows_in (project_of store) b) (i + 1) x) (sym c.sight.ensures.value) (of.all (i + 1) (omega arith) (omega arith)) in
-    subst (λ (n : ℕ). EntersTo store b (i + 1) (bit_or c.loop-i.out n)) (sym c.entered-by-out.ensures.value) (enters_more store b i c.loop-i.out c.sight.result seen (c.loop-i.invariant b of))
+    subst (λ (n : ℕ). EntersTo store b (i + 1) (bit_or c.loop-i.out n)) (sym c.entered_by-out.ensures.value) (enters_more store b i c.loop-i.out c.sight.result seen (c.loop-i.invariant b of))
 
 pub returns : goal.returns
 returns c =

@@ -5,4 +5,4 @@ use Rattle.checker.proofs.joins.fault_seen.Goals as goal
 
 pub returns : goal.returns
 unfolding fault_seen
-returns c = record { value = c.lower.ensures.value ∙ ap (lower_of c.args.sight.fault) c.outward-fault.ensures.value }
+returns c = record { value = c.lower.ensures.value ∙ ap (lower_of c.args.sight.fault) c.outward_fault.ensures.value }

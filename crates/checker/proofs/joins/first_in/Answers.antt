@@ -8,10 +8,10 @@ pub loop-i-init : goal.loop-i-init
 loop-i-init c = clean_none (project_of c.args.store.now) c.args.name c.args.deep c.requires.fit
 
 pub returns-in-Some : goal.returns-in-Some
-returns-in-Some c = record { value = (refl, first_here (project_of c.args.store.now) c.args.name c.args.deep c.loop-i.i _ c.in-Some.fault c.in-Some.is (found_lowest _ _ c.args.deep _ _ c.loop-i.i _ _ c.requires.of c.loop-i-test.true c.sight.ensures.value c.fault-seen.ensures.value) c.loop-i.invariant) }
+returns-in-Some c = record { value = (refl, first_here (project_of c.args.store.now) c.args.name c.args.deep c.loop-i.i _ c.in-Some.fault c.in-Some.is (found_lowest _ _ c.args.deep _ _ c.loop-i.i _ _ c.requires.of c.loop-i-test.true c.sight.ensures.value c.fault_seen.ensures.value) c.loop-i.invariant) }
 
 pub loop-i-preserved : goal.loop-i-preserved
-loop-i-preserved c = clean_more (project_of c.args.store.now) c.args.name c.args.deep c.loop-i.i _ c.in-default.is (found_lowest _ _ c.args.deep _ _ c.loop-i.i _ _ c.requires.of c.loop-i-test.true c.sight.ensures.value c.fault-seen.ensures.value) c.loop-i.invariant
+loop-i-preserved c = clean_more (project_of c.args.store.now) c.args.name c.args.deep c.loop-i.i _ c.in_default.is (found_lowest _ _ c.args.deep _ _ c.loop-i.i _ _ c.requires.of c.loop-i-test.true c.sight.ensures.value c.fault_seen.ensures.value) c.loop-i.invariant
 
 pub returns : goal.returns
 returns c =

@@ -1,4 +1,4 @@
-use Rattle.std.proofs.Common.{◌≡◌, sym, ◌∙◌}
+use Rattle.std.proofs.Common.{sym, ◌∙◌}
 use Rattle.walk.proofs.Lowests.{none_some}
 use Rattle.checker.specs.Project.{project_of, outermost, Holds}
 use Rattle.checker.proofs.Chaining.{reach_by}
@@ -7,7 +7,7 @@ use Rattle.checker.proofs.Fitting.{held_slot}
 use Rattle.checker.proofs.joins.reach_of.Goals as goal
 
 pub returns-in-Some : goal.returns-in-Some
-returns-in-Some c = record { value = reach_by c.args.store.now _ c.in-Some.start (sym c.find.ensures.value ∙ c.in-Some.is) c.call-table.ensures.value _ c.entered.ensures.value }
+returns-in-Some c = record { value = reach_by c.args.store.now _ c.in-Some.start (sym c.find.ensures.value ∙ c.in-Some.is) c.call_table.ensures.value _ c.entered.ensures.value }
 
 pub returns-in-None : goal.returns-in-None
 returns-in-None c =

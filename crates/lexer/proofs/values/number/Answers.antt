@@ -6,7 +6,7 @@ pub returns-then-not-has : goal.returns-then-not-has
 returns-then-not-has c =
     let xs = c.args.bytes.now in
     let none = digit_none xs c.loop-byte.byte-index c.loop-byte.value c.loop-byte-test.true (sym c.if-not-has.ensures.value) in
-    record { value = counted xs _ c.if-is-empty.ensures c.if-bytes-gt10.false (sym none ∙ c.loop-byte.invariant.1) }
+    record { value = counted xs _ c.if-is_empty.ensures c.if-bytes-gt10.false (sym none ∙ c.loop-byte.invariant.1) }
 
 pub loop-byte-preserved : goal.loop-byte-preserved
 loop-byte-preserved c =
@@ -18,4 +18,4 @@ pub returns : goal.returns
 returns c =
     let xs = c.args.bytes.now in
     let end = digit_end xs c.loop-byte.byte-index c.loop-byte.value c.loop-byte-test.false in
-    record { value = counted xs _ c.if-is-empty.ensures c.if-bytes-gt10.false (sym end ∙ c.loop-byte.invariant.1) }
+    record { value = counted xs _ c.if-is_empty.ensures c.if-bytes-gt10.false (sym end ∙ c.loop-byte.invariant.1) }

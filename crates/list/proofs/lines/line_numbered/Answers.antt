@@ -6,7 +6,7 @@ use Rattle.list.proofs.lines.line_numbered.Goals.{then-loop-passed-test+else-at-
 
 pub loop-passed-preserved : goal.loop-passed-preserved
 loop-passed-preserved c =
-    (omega arith, nearer c.args.text.now c.line-at.result.now c.loop-passed.at c.args.number c.loop-passed.passed c.if-at-text.true c.loop-passed-test.true c.line-at.ensures.value ∙ c.loop-passed.invariant.1)
+    (omega arith, nearer c.args.text.now c.line_at.result.now c.loop-passed.at c.args.number c.loop-passed.passed c.if-at-text.true c.loop-passed-test.true c.line_at.ensures.value ∙ c.loop-passed.invariant.1)
 
 pub returns : goal.returns
 returns c =
@@ -17,4 +17,4 @@ returns c =
       | then-loop-passed-test+else-at-text w ↦ passed_all text at (c.args.number - c.loop-passed.passed) w.if-at-text.false
       | else-loop-passed-test w ↦ arrived text at c.args.number c.loop-passed.passed w.loop-passed-test.false
     ] in
-    record { value = c.line-at-2.ensures.value ∙ there ∙ c.loop-passed.invariant.1 }
+    record { value = c.line_at-2.ensures.value ∙ there ∙ c.loop-passed.invariant.1 }

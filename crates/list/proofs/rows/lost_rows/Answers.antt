@@ -9,10 +9,10 @@ loop-i-preserved c =
     let room = c.args.block.now.room in
     let few = c.args.block.now.few in
     let within : n ≤ length ls = omega arith in
-    let added = c.in-ok-push-str.ensures.bytes in
-    let row = c.as-str.ensures.value in
-    let made = c.in-ok-row.ensures.value in
-    lost_more ls n c.loop-i.i c.index-block-i.result (string_bytes c.loop-i.rows) c.as-str.result.now (string_bytes c.push-str.new.self) c.loop-i-test.true within (row ∙ made) added
+    let added = c.in_ok-push_str.ensures.bytes in
+    let row = c.as_str.ensures.value in
+    let made = c.in_ok-row.ensures.value in
+    lost_more ls n c.loop-i.i c.index-block-i.result (string_bytes c.loop-i.rows) c.as_str.result.now (string_bytes c.push_str.new.self) c.loop-i-test.true within (row ∙ made) added
     ∙ c.loop-i.invariant
 
 pub returns : goal.returns

@@ -5,6 +5,6 @@ use Rattle.list.proofs.rows.number_cell.Goals as goal
 
 pub returns : goal.returns
 returns c =
-    let digits = c.as-str.result.now in
-    let spelled = c.as-str.ensures.value ∙ c.in-ok-digits.ensures.ok in
-    record { value = made_equal c.right-aligned.result (right_aligned c.args.width digits) (right_aligned c.args.width (decimal c.args.number)) (ap (λ (text : List ℕ). right_aligned c.args.width text) spelled) c.right-aligned.ensures.value }
+    let digits = c.as_str.result.now in
+    let spelled = c.as_str.ensures.value ∙ c.in_ok-digits.ensures.ok in
+    record { value = made_equal c.right_aligned.result (right_aligned c.args.width digits) (right_aligned c.args.width (decimal c.args.number)) (ap (λ (text : List ℕ). right_aligned c.args.width text) spelled) c.right_aligned.ensures.value }

@@ -4,7 +4,7 @@ use Rattle.reader.specs.Listed.{listed}
 use Rattle.list.specs.Rows.{statement_rows}
 use Rattle.list.proofs.Listing.{rows_hit, rows_miss, rows_end_statements, rows_end_text}
 use Rattle.list.proofs.rows.statement_rows.Goals as goal
-use Rattle.list.proofs.rows.statement_rows.Goals.{then-next-number+in-ok-row+in-ok-push-str, else-next-number, then-loop-at-test+else-done-block, else-loop-at-test}
+use Rattle.list.proofs.rows.statement_rows.Goals.{then-next-number+in_ok-row+in_ok-push_str, else-next-number, then-loop-at-test+else-done-block, else-loop-at-test}
 
 pub loop-at-preserved : goal.loop-at-preserved
 loop-at-preserved c =
@@ -14,16 +14,16 @@ loop-at-preserved c =
     let few = c.args.block.now.few in
     let within : n ≤ length ls = omega arith in
     let text = c.args.text.now in
-    let line = c.line-at-line.result.now in
+    let line = c.line_at-line.result.now in
     let x = c.index-block-done.result in
     let out = string_bytes c.loop-at.rows in
     let i = c.loop-at.done in
     elim c.if-next-number.branch [
-      | then-next-number+in-ok-row+in-ok-push-str w ↦
-          let hit = rows_hit ls n i c.loop-at.number c.loop-at.at x text line out w.as-str.result.now (string_bytes w.push-str.new.self) c.if-done-block.true within c.loop-at-test.true c.line-at-line.ensures.value (eq-eqb _ _ w.if-next-number.true) (w.as-str.ensures.value ∙ w.in-ok-row.ensures.value) w.in-ok-push-str.ensures.bytes in
+      | then-next-number+in_ok-row+in_ok-push_str w ↦
+          let hit = rows_hit ls n i c.loop-at.number c.loop-at.at x text line out w.as_str.result.now (string_bytes w.push_str.new.self) c.if-done-block.true within c.loop-at-test.true c.line_at-line.ensures.value (eq-eqb _ _ w.if-next-number.true) (w.as_str.ensures.value ∙ w.in_ok-row.ensures.value) w.in_ok-push_str.ensures.bytes in
           (omega arith, omega (arith, w.done-is), cc (w.rows-is, w.done-is, c.loop-at.invariant.2))
       | else-next-number w ↦
-          let miss = rows_miss ls n i c.loop-at.number c.loop-at.at x text line out c.if-done-block.true within c.loop-at-test.true c.line-at-line.ensures.value (ne_eqb _ _ w.if-next-number.false) in
+          let miss = rows_miss ls n i c.loop-at.number c.loop-at.at x text line out c.if-done-block.true within c.loop-at-test.true c.line_at-line.ensures.value (ne_eqb _ _ w.if-next-number.false) in
           (omega arith, omega (arith, w.done-is), cc (w.rows-is, w.done-is, c.loop-at.invariant.2))
     ]
 

@@ -1,4 +1,4 @@
-use Rattle.std.proofs.Common.{◌≡◌, ◌≤◌, length, ap, ◌∙◌, arith, rules}
+use Rattle.std.proofs.Common.{◌≤◌, length, ◌∙◌, arith, rules}
 use Rattle.std.specs.List.{prefix_len}
 use Rattle.awl.specs.Alphabet.{in_class}
 use Rattle.awl.specs.declared.bytes.ByteClass.TheVariants.{Printable}
@@ -15,4 +15,4 @@ pub returns : goal.returns
 returns c =
     let line = c.args.line.now in
     let all : length line ≤ prefix_len (in_class Printable) line = omega (arith, c.front-good.ensures.value, c.if-good-line.false) in
-    record { value = c.named.ensures.value ∙ head_sound line (seen_words c.words-behind-star.result) all c.words-behind-star.ensures.value }
+    record { value = c.named.ensures.value ∙ head_sound line (seen_words c.words_behind_star.result) all c.words_behind_star.ensures.value }

@@ -1,4 +1,4 @@
-use Rattle.std.proofs.Common.{◌≡◌, ℕ, ◌≤◌, false, ◌&&◌, leb, length, Some, sym, ap, ◌∙◌, arith}
+use Rattle.std.proofs.Common.{ℕ, ◌&&◌, leb, Some, sym, ap, ◌∙◌, arith}
 use Rattle.reader.specs.Listed.{entry, listed}
 use Rattle.reader.specs.Reading.{Entry}
 use Rattle.reader.proofs.Carrying.{listed-length}
@@ -16,7 +16,7 @@ returns-in-Some c =
     let there = in_range c.args.statement block.count c.in-Some.ensures.test in
     let here = among_here c.args.statement es (entry c.in-Some.line) there.0 (omega (arith, there.1, size)) in
     let line = here ∙ ap (λ (e : Entry). Some e.line) c.in-Some.ensures.value in
-    record { value = ap Some c.saturating-add.ensures ∙ stands c.args.statement c.in-Some.line.number (seen_section c.args.section) es c.in-Ok.ensures.value line }
+    record { value = ap Some c.saturating_add.ensures ∙ stands c.args.statement c.in-Some.line.number (seen_section c.args.section) es c.in-Ok.ensures.value line }
 
 pub returns-in-None : goal.returns-in-None
 returns-in-None c =

@@ -4,12 +4,12 @@ use Rattle.projects.proofs.sections.body_size.Goals as goal
 
 pub loop-at-preserved : goal.loop-at-preserved
 loop-at-preserved c =
-    let more = body_more c.args.text.now c.line-at-line.result.now c.loop-at.at c.loop-at-test.true c.line-at-line.ensures.value (sym c.if-is-head.ensures.value) in
+    let more = body_more c.args.text.now c.line_at-line.result.now c.loop-at.at c.loop-at-test.true c.line_at-line.ensures.value (sym c.if-is_head.ensures.value) in
     omega arith
 
-pub returns-then-is-head : goal.returns-then-is-head
-returns-then-is-head c =
-    let none = body_head c.args.text.now c.line-at-line.result.now c.loop-at.at c.loop-at-test.true c.line-at-line.ensures.value (sym c.if-is-head.ensures.value) in
+pub returns-then-is_head : goal.returns-then-is_head
+returns-then-is_head c =
+    let none = body_head c.args.text.now c.line_at-line.result.now c.loop-at.at c.loop-at-test.true c.line_at-line.ensures.value (sym c.if-is_head.ensures.value) in
     record { value = omega arith }
 
 pub returns : goal.returns

@@ -2,9 +2,9 @@ use Rattle.std.proofs.Common.{rules}
 use Rattle.protocol.specs.Calls.{call_of}
 use Rattle.protocol.proofs.reading.read.Goals as goal
 
-pub returns-then-is-none : goal.returns-then-is-none
+pub returns-then-is_none : goal.returns-then-is_none
 unfolding call_of
-returns-then-is-none c = search rules
+returns-then-is_none c = search rules
 
 pub returns-in-Some : goal.returns-in-Some
 unfolding call_of
@@ -22,13 +22,13 @@ pub returns-in-None-3 : goal.returns-in-None-3
 unfolding call_of
 returns-in-None-3 c = search rules
 
-pub returns-in-Some-host-call : goal.returns-in-Some-host-call
+pub returns-in-Some-host_call : goal.returns-in-Some-host_call
 unfolding call_of
-returns-in-Some-host-call c = search rules
+returns-in-Some-host_call c = search rules
 
-pub returns-in-None-host-call : goal.returns-in-None-host-call
+pub returns-in-None-host_call : goal.returns-in-None-host_call
 unfolding call_of
-returns-in-None-host-call c = search rules
+returns-in-None-host_call c = search rules
 
 pub returns-in-None : goal.returns-in-None
 unfolding call_of

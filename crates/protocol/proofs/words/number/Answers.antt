@@ -4,10 +4,10 @@ use Rattle.protocol.specs.Numbers.{at_most, number_within}
 use Rattle.protocol.proofs.Counting.{digit_more, digit_none, digit_end, too_much, refused_digits, accepted_digits, no_digit}
 use Rattle.protocol.proofs.words.number.Goals as goal
 
-pub returns-then-is-empty : goal.returns-then-is-empty
+pub returns-then-is_empty : goal.returns-then-is_empty
 unfolding number_within
-returns-then-is-empty c =
-    let none : length c.args.word.now ≡ 0 = grind (arith, nat_tests, c.if-is-empty.ensures) in
+returns-then-is_empty c =
+    let none : length c.args.word.now ≡ 0 = grind (arith, nat_tests, c.if-is_empty.ensures) in
     record { value = sym (ap (at_most c.args.most) (no_digit c.args.word.now none)); bound = tt }
 
 pub returns-then-not-has : goal.returns-then-not-has
@@ -39,7 +39,7 @@ loop-byte-preserved c =
 pub returns : goal.returns
 returns c =
     let word = c.args.word.now in
-    let some : 0 < length word = grind (arith, nat_tests, c.if-is-empty.ensures) in
+    let some : 0 < length word = grind (arith, nat_tests, c.if-is_empty.ensures) in
     let end = digit_end word c.loop-byte.byte-index c.loop-byte.value c.loop-byte-test.false in
     record {
       value = accepted_digits c.args.most _ word some (sym c.loop-byte.invariant.1 ∙ end) c.loop-byte.invariant.0;

@@ -6,9 +6,9 @@ pub returns-then-colon-code : goal.returns-then-colon-code
 unfolding head_of
 returns-then-colon-code c = search rules
 
-pub returns-in-err-mark : goal.returns-in-err-mark
+pub returns-in_err-mark : goal.returns-in_err-mark
 unfolding head_of
-returns-in-err-mark c = search rules
+returns-in_err-mark c = search rules
 
 pub returns : goal.returns
 unfolding head_of

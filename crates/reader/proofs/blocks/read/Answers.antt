@@ -5,7 +5,7 @@ use Rattle.reader.proofs.blocks.read.Goals as goal
 pub returns : goal.returns
 returns c =
     record {
-      value = c.read-block.ensures.value;
-      lawful = block_lawful c.args.text.now c.read-block.result c.read-block.ensures.value;
+      value = c.read_block.ensures.value;
+      lawful = block_lawful c.args.text.now c.read_block.result c.read_block.ensures.value;
       idle = idle_lines_only_move;
     }

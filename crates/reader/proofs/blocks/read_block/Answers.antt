@@ -1,25 +1,25 @@
-use Rattle.std.proofs.Common.{◌≡◌, ℕ, length, Ok, ap, ◌∙◌, arith, rules}
+use Rattle.std.proofs.Common.{Ok, ap, ◌∙◌, arith, rules}
 use Rattle.reader.specs.Listed.{listed}
 use Rattle.reader.specs.Reading.{reading}
 use Rattle.reader.proofs.Carrying.{listed-length}
 use Rattle.reader.proofs.Lining.{read_none, read_some}
 use Rattle.reader.proofs.blocks.read_block.Goals as goal
 
-pub returns-in-err-listing : goal.returns-in-err-listing
+pub returns-in_err-listing : goal.returns-in_err-listing
 unfolding reading
-returns-in-err-listing c = search rules
+returns-in_err-listing c = search rules
 
 pub returns-then-listing-eq0 : goal.returns-then-listing-eq0
 returns-then-listing-eq0 c =
-    let l = c.in-ok-listing.listing in
+    let l = c.in_ok-listing.listing in
     let room = l.room in
     let size = listed-length l.lines l.count (omega (arith, l.few)) in
-    record { value = read_none c.args.text.now (listed l.lines l.count) c.in-ok-listing.ensures.value (size ∙ c.if-listing-eq0.true) }
+    record { value = read_none c.args.text.now (listed l.lines l.count) c.in_ok-listing.ensures.value (size ∙ c.if-listing-eq0.true) }
 
 pub returns : goal.returns
 returns c =
-    let l = c.in-ok-listing.listing in
+    let l = c.in_ok-listing.listing in
     let room = l.room in
     let size = listed-length l.lines l.count (omega (arith, l.few)) in
-    let some = read_some c.args.text.now (listed l.lines l.count) c.in-ok-listing.ensures.value (λ e. c.if-listing-eq0.false (omega arith)) in
-    record { value = ap Ok c.resolved-lines-lines.ensures.value ∙ some }
+    let some = read_some c.args.text.now (listed l.lines l.count) c.in_ok-listing.ensures.value (λ e. c.if-listing-eq0.false (omega arith)) in
+    record { value = ap Ok c.resolved_lines-lines.ensures.value ∙ some }

@@ -12,7 +12,7 @@ loop-i-preserved c =
     let room = c.args.listing.now.room in
     let few = c.args.listing.now.few in
     let size = c.loop-i.invariant.0 in
-    (simp length-set c.loop-i.invariant.0, resolved_more (resolved (listed ls n)) ls c.loop-i.lines n c.loop-i.i c.resolved-line.result c.index-listing-i.result c.loop-i-test.true (omega arith) (omega arith) c.loop-i.invariant.1 c.resolved-line.ensures.value)
+    (simp length-set c.loop-i.invariant.0, resolved_more (resolved (listed ls n)) ls c.loop-i.lines n c.loop-i.i c.resolved_line.result c.index-listing-i.result c.loop-i-test.true (omega arith) (omega arith) c.loop-i.invariant.1 c.resolved_line.ensures.value)
 
 pub returns : goal.returns
 returns c =

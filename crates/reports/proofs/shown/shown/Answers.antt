@@ -8,9 +8,9 @@ pub loop-byte-preserved : goal.loop-byte-preserved
 loop-byte-preserved c =
     let bytes = c.args.bytes.now in
     let more = map_more shown_byte bytes c.loop-byte.byte-index 0 c.loop-byte-test.true in
-    let pushed = c.in-ok-push.ensures.bytes in
-    let byte = c.shown-byte.ensures.value in
-    let one = c.in-ok-push.ensures.ascii (shown_ascii (get_or bytes c.loop-byte.byte-index 0) c.shown-byte.result byte) in
+    let pushed = c.in_ok-push.ensures.bytes in
+    let byte = c.shown_byte.ensures.value in
+    let one = c.in_ok-push.ensures.ascii (shown_ascii (get_or bytes c.loop-byte.byte-index 0) c.shown_byte.result byte) in
     let before = c.loop-byte.invariant in
     cc
 

@@ -8,17 +8,17 @@ loop-i-preserved c =
     let h = held c.loop-i.store in
     let k = held c.put.new.store in
     let xs = c.args.sections.now in
-    (answer_more h k xs c.loop-i.i _ c.loop-i-test.true c.in-ok-put.ensures.value c.in-ok-put.ensures.after ∙ c.loop-i.invariant.0, after_more h k xs c.loop-i.i _ c.loop-i-test.true c.in-ok-put.ensures.value c.in-ok-put.ensures.after ∙ c.loop-i.invariant.1)
+    (answer_more h k xs c.loop-i.i _ c.loop-i-test.true c.in_ok-put.ensures.value c.in_ok-put.ensures.after ∙ c.loop-i.invariant.0, after_more h k xs c.loop-i.i _ c.loop-i-test.true c.in_ok-put.ensures.value c.in_ok-put.ensures.after ∙ c.loop-i.invariant.1)
 
-pub returns-in-err-put : goal.returns-in-err-put
-returns-in-err-put c =
+pub returns-in_err-put : goal.returns-in_err-put
+returns-in_err-put c =
     let h = held c.loop-i.store in
     let k = held c.put.new.store in
     let xs = c.args.sections.now in
-    let r = c.in-err-put.field-0.0 in
+    let r = c.in_err-put.field-0.0 in
     record {
-      value = handed_on c.from-residual.result r c.from-residual.ensures.1 ∙ answer_refused h xs c.loop-i.i _ r c.loop-i-test.true c.in-err-put.ensures.value ∙ c.loop-i.invariant.0;
-      after = after_refused h k xs c.loop-i.i _ r c.loop-i-test.true c.in-err-put.ensures.value c.in-err-put.ensures.after ∙ c.loop-i.invariant.1;
+      value = handed_on c.from_residual.result r c.from_residual.ensures.1 ∙ answer_refused h xs c.loop-i.i _ r c.loop-i-test.true c.in_err-put.ensures.value ∙ c.loop-i.invariant.0;
+      after = after_refused h k xs c.loop-i.i _ r c.loop-i-test.true c.in_err-put.ensures.value c.in_err-put.ensures.after ∙ c.loop-i.invariant.1;
     }
 
 pub returns : goal.returns

@@ -12,5 +12,5 @@ returns c =
     let cs = map seen_section c.args.sections.now in
     let file = c.args.file.now in
     record {
-      value = IfOk-weaker c.verdict-page.result (λ p. Says p (verdict_text j cs file) (is_pass j.verdict)) (λ p. JudgedPage p (held c.args.store.now) cs file) (λ p says. (j, c.judge-judged.ensures.value, c.judge-judged.ensures.count, (c.args.store.now, refl, c.judge-judged.ensures.walked), says)) c.verdict-page.ensures.value;
+      value = IfOk-weaker c.verdict_page.result (λ p. Says p (verdict_text j cs file) (is_pass j.verdict)) (λ p. JudgedPage p (held c.args.store.now) cs file) (λ p says. (j, c.judge-judged.ensures.value, c.judge-judged.ensures.count, (c.args.store.now, refl, c.judge-judged.ensures.walked), says)) c.verdict_page.ensures.value;
     }

@@ -4,6 +4,6 @@ use Rattle.verdicts.specs.Loading.{held}
 use Rattle.verdicts.specs.Pages.{empty}
 use Rattle.verdicts.proofs.pages.new_store.Goals as goal
 
-pub returns-in-err-words : goal.returns-in-err-words
-returns-in-err-words c =
-    record { value = IfOk-from_err c.from-residual-in-err-words.result (λ s. held s ≡ empty) c.from-residual-in-err-words.ensures.0 }
+pub returns-in_err-words : goal.returns-in_err-words
+returns-in_err-words c =
+    record { value = IfOk-from_err c.from_residual-in_err-words.result (λ s. held s ≡ empty) c.from_residual-in_err-words.ensures.0 }

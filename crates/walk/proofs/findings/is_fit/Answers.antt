@@ -3,25 +3,25 @@ use Rattle.std.proofs.lemmas.Bool.{eqb-true, eqb-false}
 use Rattle.std.proofs.lemmas.Bool.Decides.{not_from_Decides}
 use Rattle.walk.proofs.Aiming.{unfit_size, unfit_jump, aimed_more, fit_all}
 use Rattle.walk.proofs.findings.is_fit.Goals as goal
-use Rattle.walk.proofs.findings.is_fit.Goals.{then-is-empty-via-then-is-empty, then-is-empty-via-else-is-empty+then-block-gt255}
+use Rattle.walk.proofs.findings.is_fit.Goals.{then-is_empty-via-then-is_empty, then-is_empty-via-else-is_empty+then-block-gt255}
 
-pub returns-then-is-empty : goal.returns-then-is-empty
-returns-then-is-empty c =
+pub returns-then-is_empty : goal.returns-then-is_empty
+returns-then-is_empty c =
     let size : (length c.args.block.now ≡ 0) ⊎ (255 < length c.args.block.now) =
-    elim c.then-is-empty.branch [
-      | then-is-empty-via-then-is-empty w ↦ inl (eqb-true _ _ (sym c.is-empty.ensures ∙ w.if-is-empty.true))
-      | then-is-empty-via-else-is-empty+then-block-gt255 w ↦ inr w.if-block-gt255.true
+    elim c.then-is_empty.branch [
+      | then-is_empty-via-then-is_empty w ↦ inl (eqb-true _ _ (sym c.is_empty.ensures ∙ w.if-is_empty.true))
+      | then-is_empty-via-else-is_empty+then-block-gt255 w ↦ inr w.if-block-gt255.true
     ] in
     record { value = unfit_size c.args.block.now size }
 
-pub returns-then-not-is-aimed : goal.returns-then-not-is-aimed
-returns-then-not-is-aimed c =
-    record { value = unfit_jump c.args.block.now c.loop-i.i c.loop-i-test.true (not_from_Decides _ c.is-aimed.ensures.value c.if-not-is-aimed.true) }
+pub returns-then-not-is_aimed : goal.returns-then-not-is_aimed
+returns-then-not-is_aimed c =
+    record { value = unfit_jump c.args.block.now c.loop-i.i c.loop-i-test.true (not_from_Decides _ c.is_aimed.ensures.value c.if-not-is_aimed.true) }
 
 pub loop-i-preserved : goal.loop-i-preserved
-loop-i-preserved c = aimed_more c.args.block.now c.loop-i.i (c.is-aimed.ensures.value.0 c.if-not-is-aimed.false) c.loop-i.invariant
+loop-i-preserved c = aimed_more c.args.block.now c.loop-i.i (c.is_aimed.ensures.value.0 c.if-not-is_aimed.false) c.loop-i.invariant
 
 pub returns : goal.returns
 returns c =
-    let some : length c.args.block.now ≡ 0 → _ = λ e. eqb-false _ _ (sym c.is-empty.ensures ∙ c.if-is-empty.false) e in
+    let some : length c.args.block.now ≡ 0 → _ = λ e. eqb-false _ _ (sym c.is_empty.ensures ∙ c.if-is_empty.false) e in
     record { value = fit_all c.args.block.now c.loop-i.i (omega arith) c.if-block-gt255.false c.loop-i-test.false c.loop-i.invariant }

@@ -6,7 +6,7 @@ use Rattle.walk.specs.Flows.{flows_of}
 use Rattle.walk.specs.Places.{Lowest}
 use Rattle.walk.proofs.Sighting.{fault_more, fault_skip, comes_more, comes_skip, fault_all, comes_all, marked_walk}
 use Rattle.walk.proofs.findings.sight_at.Goals as goal
-use Rattle.walk.proofs.findings.sight_at.Goals.{then-is-marked, else-is-marked}
+use Rattle.walk.proofs.findings.sight_at.Goals.{then-is_marked, else-is_marked}
 
 pub loop-brackets-preserved : goal.loop-brackets-preserved
 loop-brackets-preserved c =
@@ -14,14 +14,14 @@ loop-brackets-preserved c =
     let s = c.args.statement in
     let k = c.loop-brackets.brackets in
     let few = c.loop-brackets-test.true in
-    let here = marked_walk block s c.args.seen.now k _ c.requires.exact c.requires.low few c.is-marked.ensures.value in
-    elim c.if-is-marked.branch [
-      | then-is-marked w ↦ (
-        fault_more block s k _ _ _ (here.0 w.if-is-marked.true) w.fault-at.ensures.value (w.fault-is ∙ w.lower-fault.ensures.value) c.loop-brackets.invariant.0,
-        comes_more block s k _ w.walked-is (here.0 w.if-is-marked.true),
+    let here = marked_walk block s c.args.seen.now k _ c.requires.exact c.requires.low few c.is_marked.ensures.value in
+    elim c.if-is_marked.branch [
+      | then-is_marked w ↦ (
+        fault_more block s k _ _ _ (here.0 w.if-is_marked.true) w.fault_at.ensures.value (w.fault-is ∙ w.lower-fault.ensures.value) c.loop-brackets.invariant.0,
+        comes_more block s k _ w.walked-is (here.0 w.if-is_marked.true),
       )
-      | else-is-marked w ↦
-          let off = not_from_Decides _ here w.if-is-marked.false in (
+      | else-is_marked w ↦
+          let off = not_from_Decides _ here w.if-is_marked.false in (
             subst (λ (o : Option Fault). Lowest o (MeetsBelow block s (k + 1))) (sym w.fault-is) (fault_skip block s k _ off c.loop-brackets.invariant.0),
             subst (λ (b : Bool). Decides b (ComesBelow block s (k + 1))) (sym w.walked-is) (comes_skip block s k _ off c.loop-brackets.invariant.1),
           )
@@ -35,9 +35,9 @@ returns c =
     let inv = subst (λ (n : ℕ). Lowest c.loop-brackets.fault (MeetsBelow block s n) × Decides c.loop-brackets.walked (ComesBelow block s n)) six c.loop-brackets.invariant in
     record {
       value = record {
-        flow = c.flow-at.ensures.value;
+        flow = c.flow_at.ensures.value;
         fault = fault_all block s _ c.requires.fit inv.0;
         walked = comes_all block s _ c.requires.fit inv.1;
-        bare = marked_walk block s c.args.seen.now 0 _ c.requires.exact c.requires.low (omega arith) c.is-marked-2.ensures.value;
+        bare = marked_walk block s c.args.seen.now 0 _ c.requires.exact c.requires.low (omega arith) c.is_marked-2.ensures.value;
       };
     }

@@ -1,4 +1,4 @@
-use Rattle.std.proofs.Common.{◌≡◌, ◌≤◌, Decides}
+use Rattle.std.proofs.Common.{Decides}
 use Rattle.walk.specs.Findings.{ComesBelow, MeetsBelow}
 use Rattle.walk.specs.Flows.{flows_of}
 use Rattle.walk.specs.Places.{Lowest}

@@ -14,7 +14,7 @@ loop-i-preserved c =
     let t = c.loop-i-test.true in
     let room = c.loop-i.invariant.1 in
     let few = c.loop-i.invariant.2 in (
-      sighted_more (flows_of c.args.block.now) c.loop-i.sights c.loop-i.i _ (omega arith) c.sight-at.ensures.value c.loop-i.invariant.0,
+      sighted_more (flows_of c.args.block.now) c.loop-i.sights c.loop-i.i _ (omega arith) c.sight_at.ensures.value c.loop-i.invariant.0,
       length-set _ _ _ ∙ room,
       few,
     )

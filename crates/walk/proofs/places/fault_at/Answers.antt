@@ -3,4 +3,4 @@ use Rattle.walk.proofs.Flowing.{fault_read}
 use Rattle.walk.proofs.places.fault_at.Goals as goal
 
 pub returns : goal.returns
-returns c = record { value = c.fault-of.ensures.value ∙ fault_read c.args.block.now c.args.place _ c.flow-at-flow.ensures.value }
+returns c = record { value = c.fault_of.ensures.value ∙ fault_read c.args.block.now c.args.place _ c.flow_at-flow.ensures.value }

@@ -8,4 +8,4 @@ use Rattle.walk.proofs.places.flow_at.Goals as goal
 pub returns : goal.returns
 returns c =
     let x = c.index-block-statement.result in
-    record { value = c.flow-of.ensures.value ∙ ap (λ (y : Statement). flow (written y)) c.index-block-statement.is ∙ sym (flow_read c.args.block.now c.args.statement x c.requires.0 c.requires.1) }
+    record { value = c.flow_of.ensures.value ∙ ap (λ (y : Statement). flow (written y)) c.index-block-statement.is ∙ sym (flow_read c.args.block.now c.args.statement x c.requires.0 c.requires.1) }

@@ -1,4 +1,4 @@
-use Rattle.std.proofs.Common.{◌≡◌, List, [], ◌∷◌, length, drop, sym, refl, ap, ◌∙◌, subst, arith, rules}
+use Rattle.std.proofs.Common.{◌≡◌, List, length, drop, refl, ap, ◌∙◌, subst, arith, rules}
 use Rattle.walk.specs.declared.places.Place.{Place}
 use Rattle.walk.specs.Flows.{flows_of}
 use Rattle.walk.specs.Search.{waiting_on, Hunt}
@@ -28,7 +28,7 @@ visit-requires c =
     let stack = c.loop-place.waiting in
     let top = c.in-Some.ensures.value in
     let same = c.pop.ensures.same.0 in
-    let is = popped stack.slots.now _ stack.depth _ c.in-Some.place top.0 stack.within top.1 same c.pop.ensures.depth-after in
+    let is = popped stack.slots.now _ stack.depth _ c.in-Some.place top.0 stack.within top.1 same c.pop.ensures.depth_after in
     let long = ap length same in
     let room = c.loop-place.invariant.1 in
     record {
@@ -41,7 +41,7 @@ pub returns : goal.returns
 returns c =
     let block = flows_of c.args.block.now in
     let slots = c.loop-place.waiting.slots.now in
-    let z = ap (waiting_on slots) c.in-default.ensures.value ∙ waiting_none slots in
+    let z = ap (waiting_on slots) c.in_default.ensures.value ∙ waiting_none slots in
     let a = ap (drop 1530) c.over-waiting.ensures.same.0 in
     let b = c.note.ensures.rest in
     let d = c.loop-place.invariant.2 in

@@ -1,4 +1,4 @@
-use Rattle.std.proofs.Common.{◌≡◌, ◌<◌, ◌≤◌, Bool, cond, not, ◌∷◌, length, IfSome, Option, sym, refl, ap, ◌∙◌, subst, arith}
+use Rattle.std.proofs.Common.{◌<◌, ◌≤◌, Bool, cond, ◌∷◌, length, IfSome, Option, sym, refl, ap, ◌∙◌, subst, arith}
 use Rattle.walk.specs.declared.places.Place.{Place}
 use Rattle.walk.specs.Search.{waiting_on, spot, marking, joining}
 use Rattle.walk.proofs.Waiting.{pushed}
@@ -17,7 +17,7 @@ returns-then-mark c =
     let fresh = was_unmarked seen (spot q) _ c.mark.ensures.value c.if-mark.true in
     let some = some_unmarked seen (spot q) inside fresh in
     let room = c.requires.room in
-    let p = pushed slots _ depth _ q _ 1530 c.push.ensures.value c.push.ensures.depth-after c.push.ensures.slots-after (omega arith) c.requires.slots in
+    let p = pushed slots _ depth _ q _ 1530 c.push.ensures.value c.push.ensures.depth_after c.push.ensures.slots_after (omega arith) c.requires.slots in
     record {
       seen = c.mark.ensures.after ∙ sym (ap (marking seen) is);
       waiting = p.waiting ∙ sym (ap (joining seen (waiting_on slots depth)) is ∙ ap (λ (b : Bool). cond b (waiting_on slots depth) (q ∷ waiting_on slots depth)) fresh);

@@ -7,6 +7,6 @@ pub returns : goal.returns
 returns c =
     record {
       same = search rules;
-      own = c.take-next.ensures.after;
-      count = λ fs k stood. c.take-next.ensures.after ∙ ap fed stood ∙ shown_next fs k;
+      own = c.take_next.ensures.after;
+      count = λ fs k stood. c.take_next.ensures.after ∙ ap fed stood ∙ shown_next fs k;
     }

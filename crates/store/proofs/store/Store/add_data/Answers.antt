@@ -10,39 +10,24 @@ use Rattle.store.proofs.Pasting.{paste_behind}
 use Rattle.store.proofs.Spelling.{refilled_paste}
 use Rattle.store.proofs.store.Store.add_data.Goals as goal
 
-pub invariant-of-self : goal.invariant-of-self
-invariant-of-self c =
+pub invariant_of-self : goal.invariant_of-self
+invariant_of-self c =
     let s = c.args.self.now in
     let slot : DataSlot = record { number = c.args.number; size = c.args.size } in
     let count = s.data_slot_count in
-    let room = c.requires.room in (
-      s.statement_room,
-      (
-        s.word_room,
-        (
-          s.slot_count,
-          (
-            length-set s.data_slots s.laid slot ∙ s.data_slot_count,
-            (
-              omega arith,
-              (
-                s.single,
-                (
-                  s.emptied,
-                  (
-                    s.small,
-                    (
-                      s.readable,
-                      (sized_more s.data_slots s.laid slot (omega arith) s.sized c.requires.some c.requires.few, tt),
-                    ),
-                  ),
-                ),
-              ),
-            ),
-          ),
-        ),
-      ),
-    )
+    let room = c.requires.room in
+    record {
+      statement_room = s.statement_room;
+      word_room = s.word_room;
+      slot_count = s.slot_count;
+      data_slot_count = length-set s.data_slots s.laid slot ∙ s.data_slot_count;
+      few = omega arith;
+      single = s.single;
+      emptied = s.emptied;
+      small = s.small;
+      readable = s.readable;
+      sized = sized_more s.data_slots s.laid slot (omega arith) s.sized c.requires.some c.requires.few;
+    }
 
 pub returns : goal.returns
 unfolding data_blocks
@@ -55,10 +40,10 @@ returns c =
     let room = c.requires.room in
     let few = c.requires.few in
     let wide = s.word_room in
-    let size = ap length c.deref-mut.ensures.value in
-    let long = c.deref-mut.ensures.len in
+    let size = ap length c.deref_mut.ensures.value in
+    let long = c.deref_mut.ensures.len in
     let zeros = length-replicate {A = ℕ} c.args.size 0 in
-    let after = refilled_paste s.words c.deref-mut.result.now c.put-zeros.new.table (n * 256) (replicate c.args.size 0) c.args.size c.deref-mut.ensures.value c.deref-mut.ensures.len c.put-zeros.auto.table c.put-zeros.ensures.after in
+    let after = refilled_paste s.words c.deref_mut.result.now c.put_zeros.new.table (n * 256) (replicate c.args.size 0) c.args.size c.deref_mut.ensures.value c.deref_mut.ensures.len c.put_zeros.auto.table c.put_zeros.ensures.after in
     let laid = laid_more ds n slot (vec_items s.words) (omega arith) s.sized (omega arith) (unlaid s c.args.number c.requires.fresh) in
     record {
       after = fun_ext (λ k. ap (λ (t : List ℕ). option_map (words_in (set ds n slot) t) (data_slot_in (set ds n slot) (n + 1) k)) after ∙ laid k);

@@ -6,9 +6,20 @@ use Rattle.store.specs.Held.{blocks, block_count, data_blocks}
 use Rattle.store.proofs.Opening.{slot_free, names-free, single_free, emptied_free, small_free, readable_free}
 use Rattle.store.proofs.store.Store.empty.Goals as goal
 
-pub invariant-of-result : goal.invariant-of-result
-invariant-of-result c =
-    (c.requires.«statement-room», (c.requires.«word_room», (refl, (refl, (omega arith, (single_free 32, (emptied_free 32, (small_free 32, (readable_free 32 (vec_items c.args.statements), (λ i h. absurd (omega arith), tt))))))))))
+pub invariant_of-result : goal.invariant_of-result
+invariant_of-result c =
+    record {
+      statement_room = c.requires.«statement_room»;
+      word_room = c.requires.«word_room»;
+      slot_count = refl;
+      data_slot_count = refl;
+      few = omega arith;
+      single = single_free 32;
+      emptied = emptied_free 32;
+      small = small_free 32;
+      readable = readable_free 32 (vec_items c.args.statements);
+      sized = λ i h. absurd (omega arith);
+    }
 
 pub returns : goal.returns
 unfolding blocks block_count data_blocks
@@ -24,4 +35,5 @@ returns c =
             statements_spared = refl;
             words_spared = refl;
           };
+      unlaid = refl;
     }

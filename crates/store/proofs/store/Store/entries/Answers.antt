@@ -10,5 +10,5 @@ returns-then-slot-ge32 c =
 
 pub returns : goal.returns
 returns c =
-    let same = text_part c.args.self.now c.args.slot c.as-slice-table.result.now c.as-slice-table.ensures.value in
+    let same = text_part c.args.self.now c.args.slot c.as_slice-table.result.now c.as_slice-table.ensures.value in
     record { value = same; readable = λ n h. subst Readable (sym same) (text_readable c.args.self.now c.args.slot n h) }

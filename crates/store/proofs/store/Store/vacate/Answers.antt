@@ -10,8 +10,8 @@ use Rattle.store.proofs.store.Store.vacate.Goals as goal
 pub bounds-self-slot : goal.bounds-self-slot
 bounds-self-slot c = (slot_has_name c.args.self.now c.args.name c.args.slot c.requires).0
 
-pub invariant-of-self : goal.invariant-of-self
-invariant-of-self c =
+pub invariant_of-self : goal.invariant_of-self
+invariant_of-self c =
     let s = c.args.self.now in
     let i = c.args.slot in
     let table = vec_items s.statements in
@@ -21,7 +21,18 @@ invariant-of-self c =
     let emptied = emptied_set s.slots i free within s.emptied (λ e. refl) in
     let small = small_set s.slots i free within s.small (omega arith) in
     let readable = readable_set s.slots i free table table within s.readable (λ j ne. text_same s.slots i j free table ne) (λ n e. absurd (none_named n e)) in
-    (s.statement_room, (s.word_room, (slots, (s.data_slot_count, (s.few, (single, (emptied, (small, (readable, (s.sized, tt))))))))))
+    record {
+      statement_room = s.statement_room;
+      word_room = s.word_room;
+      slot_count = slots;
+      data_slot_count = s.data_slot_count;
+      few = s.few;
+      single = single;
+      emptied = emptied;
+      small = small;
+      readable = readable;
+      sized = s.sized;
+    }
 
 pub returns : goal.returns
 returns c =

@@ -6,14 +6,14 @@ use Rattle.store.proofs.Granting.{place_granted, place_refused, answer_by_place,
 use Rattle.store.proofs.Seating.{same_data}
 use Rattle.store.proofs.store.Store.write.Goals as goal
 
-pub returns-in-default : goal.returns-in-default
-returns-in-default c =
+pub returns-in_default : goal.returns-in_default
+returns-in_default c =
     let s = c.args.self.now in
-    let b = c.in-ok-block.block in
+    let b = c.in_ok-block.block in
     let es = listed b.lines b.count in
     let text = reading c.args.text.now in
-    let said = c.in-ok-block.ensures.value in
-    let full = place_refused s c.args.name c.in-default.ensures.value in
+    let said = c.in_ok-block.ensures.value in
+    let full = place_refused s c.args.name c.in_default.ensures.value in
     record {
       value = answer_by_place (blocks s) (block_count s) c.args.name es text false said full;
       after = blocks_by_place (blocks s) (block_count s) c.args.name es text false (blocks s) said full refl;
@@ -26,10 +26,10 @@ pub returns : goal.returns
 returns c =
     let s = c.args.self.now in
     let left = c.seat.new.self in
-    let b = c.in-ok-block.block in
+    let b = c.in_ok-block.block in
     let es = listed b.lines b.count in
     let text = reading c.args.text.now in
-    let said = c.in-ok-block.ensures.value in
+    let said = c.in_ok-block.ensures.value in
     let place = place_granted s c.args.name c.in-Some.slot c.in-Some.ensures.value in
     record {
       value = answer_by_place (blocks s) (block_count s) c.args.name es text true said place;
