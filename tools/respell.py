@@ -4,8 +4,8 @@
 usage: python3 tools/respell.py [FOLDER]     FOLDER is the top of a checkout; this one if none is given
 
 Each line of spelling.txt is an old name and a new one: definitions, fields and lemmas of specs/ and proofs/, which are
-in snake case since the toolchain changed. Only whole names turn, in .antt files and in the clauses, imports and
-comments of .rt files; names in src/, strings and the steps of a proof (behind c., w. or goal.) keep theirs.
+in snake case since the toolchain changed. Only whole names turn, in .antt and .rt files; strings in one line and the
+steps of a proof (behind c., w. or goal.) keep theirs. Each old name has a capital or a dash, so no name of the code is one.
 """
 
 import os

@@ -3,8 +3,8 @@ use Rattle.std.specs.Prelude.{◌≡◌, ℕ, ◌-◌, Bool, cond, ◌&&◌, Lis
 use Rattle.answers.specs.Written.{written}
 use Rattle.answers.specs.declared.Answer.{Answer}
 use Rattle.answers.specs.declared.Answer.TheVariants.{BadLine}
-use Rattle.host_desk.specs.Seats.{Seated, host_in, set_answer, after_set, slot_answer, slot_after as hostAfter}
-use Rattle.project_desk.specs.Projects.{Held, project_in, SlotTells, slot_after as projectAfter}
+use Rattle.host_desk.specs.Seats.{Seated, host_in, set_answer, after_set, slot_answer, slot_after as host_after}
+use Rattle.project_desk.specs.Projects.{Held, project_in, SlotTells, slot_after as project_after}
 use Rattle.protocol.specs.Calls.{call_of, is_silent}
 use Rattle.protocol.specs.declared.calls.Call.{Call}
 use Rattle.protocol.specs.declared.calls.Call.TheVariants.{Project, NewHost, Host}
@@ -31,9 +31,9 @@ Answered d (Host c) a = a ≡ slot_answer d.host c
 
 -- what a call leaves on the desk: a project call the host, and a host call the project
 abbrev pub after_call : OnDesk → Call (List ℕ) → OnDesk
-after_call d (Project c) = record { project = projectAfter d.project c; host = d.host }
+after_call d (Project c) = record { project = project_after d.project c; host = d.host }
 after_call d (NewHost h) = record { project = d.project; host = after_set d.host h }
-after_call d (Host c) = record { project = d.project; host = hostAfter d.host c }
+after_call d (Host c) = record { project = d.project; host = host_after d.host c }
 
 -- whether the last byte is 10, which ends a line
 abbrev pub is_ended : List ℕ → Bool

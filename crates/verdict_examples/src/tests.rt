@@ -3,7 +3,7 @@ use std::alloc::{AllocError, Global};
 use std::test::Fail;
 use verdicts::pages::Page;
 
-// The foil printer's case, as examples/web-break.prj has it.
+// The foil printer's case, as examples/web-break.prj has it, but for the command in the comment.
 const WEB_BREAK: &str = "; The foil printer's case: a press that stood for a shift.
 ;
 ; Count the brackets of PB 2 down the page: three are opened, one inside the other, and three are closed. Five may be
