@@ -1,5 +1,6 @@
 pub mod Alphabet
 pub mod MarkText
+pub mod Names
 pub mod Order
 pub mod Reach
 pub mod Refusals

@@ -21,8 +21,6 @@ use Rattle.awl.specs.declared.statements.CodedSource.{CodedSource}
 use Rattle.awl.specs.declared.statements.CodedSource.TheVariants as coded
 use Rattle.awl.specs.declared.statements.Destination.{Destination}
 use Rattle.awl.specs.declared.statements.Destination.TheVariants as destination
-use Rattle.awl.specs.declared.statements.Resettable.{Resettable}
-use Rattle.awl.specs.declared.statements.Resettable.TheVariants as resettable
 use Rattle.awl.specs.declared.statements.Operation.{Operation}
 use Rattle.awl.specs.declared.statements.Operation.TheVariants as operation
 use Rattle.awl.specs.declared.statements.Statement.{Statement}
@@ -69,7 +67,7 @@ span_operand s = span s.area s.width s.first
 abbrev pub data_operand : DataPlace → Operand
 data_operand d = data_place d.part d.word
 
--- what a query asks
+-- what a query asks, and what R resets
 abbrev pub query_operand : Query → Operand
 query_operand (query.Bit b) = bit_operand b
 query_operand (query.Timer t) = timer t.number
@@ -93,12 +91,6 @@ coded_operand (coded.Counter z) = counter z.number
 abbrev pub destination_operand : Destination → Operand
 destination_operand (destination.Span s) = span_operand s
 destination_operand (destination.Data d) = data_operand d
-
--- what R resets
-abbrev pub resettable_operand : Resettable → Operand
-resettable_operand (resettable.Bit b) = bit_operand b
-resettable_operand (resettable.Timer t) = timer t.number
-resettable_operand (resettable.Counter z) = counter z.number
 
 -- a call is written SPA or SPB, as a jump is
 abbrev pub call_jump : CallCondition → JumpCondition
@@ -134,7 +126,7 @@ operand_of OrBefore = none
 operand_of (Open b) = none
 operand_of Close = none
 operand_of (Set b) = bit_operand b
-operand_of (Reset x) = resettable_operand x
+operand_of (Reset x) = query_operand x
 operand_of (Assign b) = bit_operand b
 operand_of (Load s) = source_operand s
 operand_of (LoadCoded s) = coded_operand s

@@ -1,6 +1,6 @@
 // Classes of bytes, and how many bytes of one class stand in front. It knows nothing of lines or words.
 ghost use Rattle.std.specs.Prelude.{◌≡◌, ◌-◌, ◌≤◌, length, drop};
-ghost use Rattle.std.specs.List.{prefix_len};
+ghost use Rattle.std.specs.List.{prefix_len, take_while};
 ghost use Rattle.awl.specs.Alphabet.{in_class};
 
 #[derive(Clone, Copy)]
@@ -50,29 +50,16 @@ pub fn tail(bytes: &[u8], count: usize) -> &[u8]
     ensures value { result.now ≡ drop count bytes.now }
     ensures len { length result.now ≡ length bytes.now - count }
 {
-    if count < bytes.len() {
-        cut(bytes, count)
-    } else {
-        cut(bytes, bytes.len())
-    }
+    bytes.get(count..).unwrap_or(&[])
 }
 
-// The bytes of the class in front, counted one by one.
+// The bytes of the class in front, counted.
 fn counted_front(class: ByteClass, bytes: &[u8]) -> usize
-    ensures value { result ≡ prefix_len (in_class class) bytes.now }
-    ensures bound { result ≤ length bytes.now }
+    ensures value { result ≡ length (take_while (in_class class) bytes.now) }
 {
-    let mut count = 0;
-    while count < bytes.len() && class.has(bytes[count]) {
-        count += 1;
-    }
-    count
-}
-
-fn cut(bytes: &[u8], count: usize) -> &[u8]
-    requires { count ≤ length bytes.now }
-    ensures value { result.now ≡ drop count bytes.now }
-    ensures len { length result.now ≡ length bytes.now - count }
-{
-    &bytes[count..]
+    bytes
+        .iter()
+        .copied()
+        .take_while(|byte| class.has(*byte))
+        .count()
 }

@@ -6,7 +6,7 @@ ghost use Rattle.awl.specs.MarkText.{is_mark};
 use crate::bytes::ByteClass;
 
 // A capital, then up to five capitals or digits: the first `size` of its bytes. The others are 0.
-#[derive(Clone, Copy)]
+#[derive(Clone, Copy, PartialEq, Eq)]
 pub struct Mark {
     pub bytes: [u8; 6],
     pub size: u8,
@@ -40,18 +40,12 @@ impl Mark {
     }
 
     // Whether the two are one mark.
+    #[tactic(auto, using(crate::proofs::Padded::texts_equal))]
     pub fn is(&self, other: &Mark) -> bool
         ensures value { result ≡ bytes_eq (take self.now.size self.now.bytes) (take other.now.size other.now.bytes) }
     {
-        same_text(self.text(), other.text())
+        self == other
     }
-}
-
-// Whether the bytes are the same, one by one.
-fn same_text(one: &[u8], other: &[u8]) -> bool
-    ensures value { result ≡ bytes_eq one.now other.now }
-{
-    one == other
 }
 
 // Whether the bytes spell a mark.
@@ -73,8 +67,6 @@ fn with_zeros(text: &[u8]) -> [u8; 6]
     ensures size { length result ≡ 6 }
 {
     let mut bytes = [0; 6];
-    for i in 0..text.len() {
-        bytes[i] = text[i];
-    }
+    bytes[..text.len()].copy_from_slice(text);
     bytes
 }

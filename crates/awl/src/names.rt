@@ -1,15 +1,20 @@
-// Names of blocks and their order. It knows nothing of what a block holds.
-ghost use Rattle.std.specs.Prelude.{◌≡◌, Decides};
+// Names of blocks, their order, and how they are written. It knows nothing of what a block holds.
+ghost use Rattle.std.specs.Prelude.{◌≡◌, Some, Decides};
+ghost use Rattle.awl.specs.Names.{kind_letters, block_name_text};
 ghost use Rattle.awl.specs.Order.{kind_rank, Before};
 
-#[derive(Clone, Copy, PartialEq, Eq)]
+use std::fmt;
+
+// Blocks of a kind that stands earlier come first.
+#[derive(Clone, Copy, PartialEq, Eq, PartialOrd, Ord)]
 pub enum BlockKind {
-    Organisation, // OB
-    Program, // PB
-    Function, // FB
+    Organisation = 0, // OB
+    Program = 1, // PB
+    Function = 2, // FB
 }
 
-#[derive(Clone, Copy, PartialEq, Eq)]
+// In order by kind, then by number.
+#[derive(Clone, Copy, PartialEq, Eq, PartialOrd, Ord)]
 pub struct BlockName {
     pub kind: BlockKind,
     pub number: u8,
@@ -20,10 +25,17 @@ impl BlockKind {
     pub fn rank(self) -> u8
         ensures value { result ≡ kind_rank self }
     {
+        self as u8
+    }
+
+    // The two letters of the kind.
+    pub fn letters(self) -> &'static str
+        ensures value { result.now ≡ kind_letters self }
+    {
         match self {
-            BlockKind::Organisation => 0,
-            BlockKind::Program => 1,
-            BlockKind::Function => 2,
+            BlockKind::Organisation => "OB",
+            BlockKind::Program => "PB",
+            BlockKind::Function => "FB",
         }
     }
 }
@@ -33,8 +45,26 @@ impl BlockName {
     pub fn precedes(self, other: BlockName) -> bool
         ensures value { Decides result (Before self other) }
     {
-        let mine = self.kind.rank();
-        let theirs = other.kind.rank();
-        mine < theirs || mine == theirs && self.number < other.number
+        self < other
+    }
+}
+
+// The two letters of the kind: PB.
+impl fmt::Display for BlockKind {
+    ghost output = { λ k. Some (kind_letters k) };
+
+    fn fmt<W: fmt::Write>(&self, f: &mut fmt::Formatter<W>) -> fmt::Result {
+        f.write_str(self.letters())
+    }
+}
+
+// Kind and number: PB 3.
+impl fmt::Display for BlockName {
+    ghost output = { λ n. Some (block_name_text n) };
+
+    fn fmt<W: fmt::Write>(&self, f: &mut fmt::Formatter<W>) -> fmt::Result {
+        let kind = self.kind;
+        let number = self.number;
+        write!(f, "{kind} {number}")
     }
 }

@@ -52,6 +52,8 @@ pub struct TimerName {
 }
 
 // A counter: Z 1
+// A type of its own beside the timer's, alike but for its name: one type over a marker would tell them apart by a
+// PhantomData in every literal and pattern, which is no plainer.
 #[derive(Clone, Copy)]
 pub struct CounterName {
     pub number: u8,
@@ -86,16 +88,13 @@ impl Bit {
         ensures value { IfSome result (λ b. (b.area ≡ area) × (b.byte ≡ byte) × (b.bit ≡ bit)) }
     {
         match (area, byte, bit) {
-            (Area::Input | Area::Output, 0..=127, 0..=7) => Some(Bit {
-                area,
-                byte: byte as u8,
-                bit: bit as u8,
-            }),
-            (Area::Flag, 0..=191, 0..=7) => Some(Bit {
-                area,
-                byte: byte as u8,
-                bit: bit as u8,
-            }),
+            (Area::Input | Area::Output, 0..=127, 0..=7) | (Area::Flag, 0..=191, 0..=7) => {
+                Some(Bit {
+                    area,
+                    byte: byte as u8,
+                    bit: bit as u8,
+                })
+            }
             _ => None,
         }
     }
@@ -162,11 +161,8 @@ impl DataPlace {
         ensures value { IfSome result (λ d. (d.part ≡ part) × (d.word ≡ word)) }
     {
         match (part, word) {
-            (DataPart::Left | DataPart::Right | DataPart::Word, 0..=255) => Some(DataPlace {
-                part,
-                word: word as u8,
-            }),
-            (DataPart::Double, 0..=254) => Some(DataPlace {
+            (DataPart::Left | DataPart::Right | DataPart::Word, 0..=255)
+            | (DataPart::Double, 0..=254) => Some(DataPlace {
                 part,
                 word: word as u8,
             }),

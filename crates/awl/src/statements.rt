@@ -80,12 +80,12 @@ pub enum BlockEnd {
     Rlo, // BEB
 }
 
-// The bits that answer a query.
+// The bits that answer a query, which are what R can reset.
 #[derive(Clone, Copy)]
 pub enum Query {
-    Bit(Bit), // U E 0.0
-    Timer(TimerName), // U T 1
-    Counter(CounterName), // U Z 1
+    Bit(Bit), // U E 0.0, R M 3.1
+    Timer(TimerName), // U T 1, R T 1
+    Counter(CounterName), // U Z 1, R Z 1
 }
 
 // What L can load.
@@ -111,14 +111,6 @@ pub enum CodedSource {
 pub enum Destination {
     Span(Span), // T AW 2
     Data(DataPlace), // T DD 4
-}
-
-// What R can reset.
-#[derive(Clone, Copy)]
-pub enum Resettable {
-    Bit(Bit), // R M 3.1
-    Timer(TimerName), // R T 1
-    Counter(CounterName), // R Z 1
 }
 
 // Where a jump goes: its mark, and the statement that carries it, from 1, or none where no statement does.
@@ -157,7 +149,7 @@ pub enum Statement {
     Open(Bracket), // U(
     Close, // )
     Set(Bit), // S A 0.0
-    Reset(Resettable), // R A 0.0
+    Reset(Query), // R A 0.0
     Assign(Bit), // = A 0.0
     Load(Source), // L EB 0
     LoadCoded(CodedSource), // LC T 1
@@ -173,12 +165,12 @@ pub enum Statement {
     Stop, // STS
 }
 
-impl CallCondition {
-    // The jump that is written by the same word.
-    pub fn jump(self) -> JumpCondition
-        ensures value { result ≡ call_jump self }
-    {
-        match self {
+// The jump that is written by the same word as the call.
+impl From<CallCondition> for JumpCondition {
+    ghost from_gives = { λ c r. r ≡ call_jump c };
+
+    fn from(call: CallCondition) -> JumpCondition {
+        match call {
             CallCondition::Always => JumpCondition::Always,
             CallCondition::Rlo => JumpCondition::Rlo,
         }
