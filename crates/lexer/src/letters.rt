@@ -21,16 +21,15 @@ pub enum Letters {
 }
 
 // The letters that a word is, or none.
+#[tactic(auto, unfolding(crate::specs::Letters::letters_of))]
 pub fn read_letters(word: &[u8]) -> Option<Letters>
     ensures value { result ≡ letters_of word.now }
 {
-    if word.len() == 1 {
-        return one_letter(char::from(word[0]));
+    match word {
+        [letter] => one_letter(char::from(*letter)),
+        [first, second] => two_letters(char::from(*first), char::from(*second)),
+        _ => None,
     }
-    if word.len() == 2 {
-        return two_letters(char::from(word[0]), char::from(word[1]));
-    }
-    None
 }
 
 fn one_letter(letter: char) -> Option<Letters>

@@ -10,13 +10,14 @@ use awl::statements::{
 use std::str::from_utf8;
 
 // The operation with the name that the bytes spell, or none.
+#[tactic(auto, using(crate::proofs::Naming::no_text_no_name))]
 pub fn operation(word: &[u8]) -> Option<Operation>
     ensures value { MatchOption result ((o : Operation) → name_of o ≢ word.now) (λ o. name_of o ≡ word.now) }
 {
-    match from_utf8(word) {
-        Ok(name) => named(name),
-        Err(_) => None,
-    }
+    let Ok(name) = from_utf8(word) else {
+        return None;
+    };
+    named(name)
 }
 
 fn named(name: &str) -> Option<Operation>

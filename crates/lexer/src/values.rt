@@ -19,59 +19,40 @@ pub fn bit_value(area: Area, word: &[u8]) -> Option<Bit>
     if point == word.len() {
         return None;
     }
-    let byte = number(&word[0..point]);
-    let bit = number(tail(word, point + 1));
-    match (byte, bit) {
-        (Some(byte), Some(bit)) => Bit::new(area, byte, bit),
-        _ => None,
-    }
+    let byte = number(&word[..point])?;
+    let bit = number(tail(word, point + 1))?;
+    Bit::new(area, byte, bit)
 }
 
 pub fn span_value(area: Area, width: Width, word: &[u8]) -> Option<Span>
     ensures value { option_map span_operand result ≡ value_of (SpanLetters area width) word.now }
 {
-    match number(word) {
-        Some(first) => Span::new(area, width, first),
-        None => None,
-    }
+    Span::new(area, width, number(word)?)
 }
 
 pub fn timer_value(word: &[u8]) -> Option<TimerName>
     ensures value { option_map (λ t. timer t.number) result ≡ value_of Timer word.now }
 {
-    match number(word) {
-        Some(n) => TimerName::new(n),
-        None => None,
-    }
+    TimerName::new(number(word)?)
 }
 
 pub fn counter_value(word: &[u8]) -> Option<CounterName>
     ensures value { option_map (λ z. counter z.number) result ≡ value_of Counter word.now }
 {
-    match number(word) {
-        Some(n) => CounterName::new(n),
-        None => None,
-    }
+    CounterName::new(number(word)?)
 }
 
 pub fn data_value(part: DataPart, word: &[u8]) -> Option<DataPlace>
     ensures value { option_map data_operand result ≡ value_of (Data part) word.now }
 {
-    match number(word) {
-        Some(n) => DataPlace::new(part, n),
-        None => None,
-    }
+    DataPlace::new(part, number(word)?)
 }
 
 // A number of one byte: KB, and the numbers of blocks and data blocks.
 pub fn byte_value(word: &[u8]) -> Option<u8>
     ensures value { result ≡ byte_of word.now }
 {
-    match number(word) {
-        Some(n) if n <= 255 => Some(n as u8),
-        Some(_) => None,
-        None => None,
-    }
+    u8::try_from(number(word)?).ok()
 }
 
 pub fn mark_value(word: &[u8]) -> Option<Mark>
@@ -84,10 +65,9 @@ pub fn mark_value(word: &[u8]) -> Option<Mark>
 pub fn double_value(bytes: &[u8]) -> Option<i32>
     ensures value { result ≡ double_of bytes.now }
 {
-    if !bytes.is_empty() && bytes[0] == b'-' {
-        negative(number(tail(bytes, 1)))
-    } else {
-        positive(number(bytes))
+    match bytes {
+        [b'-', digits @ ..] => negative(number(digits)),
+        _ => positive(number(bytes)),
     }
 }
 
@@ -112,20 +92,13 @@ pub fn number(bytes: &[u8]) -> Option<u64>
 fn negative(size: Option<u64>) -> Option<i32>
     ensures value { result ≡ negative_of size }
 {
-    match size {
-        Some(n) if n <= 2147483648 => Some((0 - n as i64) as i32),
-        Some(_) => None,
-        None => None,
-    }
+    let size = i64::try_from(size?).ok()?;
+    i32::try_from(-size).ok()
 }
 
 // The number from zero on, where 32 bits hold it with a sign.
 fn positive(size: Option<u64>) -> Option<i32>
     ensures value { result ≡ positive_of size }
 {
-    match size {
-        Some(n) if n <= 2147483647 => Some(n as i32),
-        Some(_) => None,
-        None => None,
-    }
+    i32::try_from(size?).ok()
 }

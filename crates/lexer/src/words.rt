@@ -1,6 +1,6 @@
 // The words of a line, as parts of it with their places. It knows nothing of what a word means.
 ghost use Rattle.std.specs.Prelude.{◌≡◌, ℕ, ◌+◌, ◌^◌, ◌<◌, ◌≤◌, max, length};
-ghost use Rattle.lexer.specs.Words.{kind_of, seen, seen_word, seen_words, word_in, word_from, words_from, fault_at};
+ghost use Rattle.lexer.specs.Words.{kind_of, seen, seen_word, seen_words, word_in, word_from, words_from, is_missing, fault_at};
 
 use crate::faults::{Flaw, WordFault, WordKind};
 use awl::bytes::{ByteClass, tail};
@@ -51,10 +51,19 @@ impl Word<'_> {
     }
 }
 
+impl Part<'_> {
+    // Whether it is a word that is not there.
+    pub fn is_missing(self) -> bool
+        ensures value { result ≡ is_missing (seen self.entry) }
+    {
+        self.bytes.is_empty()
+    }
+}
+
 fn part_fault(kind: WordKind, part: Part, end: LineEnd) -> WordFault
     ensures value { result ≡ fault_at end kind (seen part.entry) }
 {
-    if part.bytes.is_empty() {
+    if part.is_missing() {
         return WordFault {
             kind,
             flaw: Flaw::Missing,

@@ -1,21 +1,21 @@
-// The words behind the colon, read into a statement: one small function for each shape of an operand.
+// The statement that the words behind a colon make: one function for each shape of an operand.
 // It knows nothing of lines and marks.
-ghost use Rattle.std.specs.Prelude.{◌≡◌};
-ghost use Rattle.awl.specs.Written.{timer, counter, mark, block, data_block, mark_text, bit_operand, span_operand, data_operand, query_operand, source_operand, coded_operand, destination_operand, resettable_operand, call_jump};
-ghost use Rattle.lexer.specs.Values.{byte_of};
+ghost use Rattle.std.specs.Prelude.{◌≡◌, Option};
+ghost use Rattle.awl.specs.Written.{timer, counter, mark, data_block, mark_text, bit_operand, query_operand, source_operand, coded_operand, destination_operand, call_jump};
 ghost use Rattle.parser.specs.Answers.{map_ok, and_then};
-ghost use Rattle.lexer.specs.Words.{seen, seen_words};
+ghost use Rattle.lexer.specs.Letters.{letters_of};
+ghost use Rattle.lexer.specs.Words.{seen, seen_words, fault_at};
 ghost use Rattle.parser.specs.Statements.{expect, behind, operand_among, is_query, is_bit, is_source, is_coded, is_destination, is_timer, is_counter, is_marked, is_data_block, is_goal, complete, plain, written, statement_with, statement_of};
 ghost use Rattle.lexer.specs.declared.faults.WordKind.TheVariants as kind;
 ghost use Rattle.lexer.specs.declared.letters.Letters.TheVariants as letters;
 ghost use Rattle.awl.specs.declared.statements.Operation.TheVariants as operations;
 
 use awl::marks::Mark;
-use awl::names::{BlockKind, BlockName};
-use awl::places::{Area, Bit, CounterName, DataPart, DataPlace, Span, TimerName, Width};
+use awl::names::BlockName;
+use awl::places::{Bit, CounterName, TimerName};
 use awl::statements::{
-    CallCondition, CodedSource, Combination, Destination, JumpCondition, Operation, Query,
-    Resettable, Source, Statement, Target,
+    CallCondition, CodedSource, Combination, Destination, JumpCondition, Operation, Query, Source,
+    Statement, Target,
 };
 use lexer::faults::{Flaw, WordFault, WordKind};
 use lexer::letters::{Letters, read_letters};
@@ -26,117 +26,240 @@ use lexer::values::{
 };
 use lexer::words::{LineEnd, Part, Word, Words};
 
+// The words behind a line's colon, and where the line ends.
+#[derive(Clone, Copy)]
+struct Typed<'a> {
+    words: Words<'a>,
+    end: LineEnd,
+}
+
 // The statement that the words make, a jump's target not yet looked up.
 pub fn statement_from(words: Words, end: LineEnd) -> Result<Statement, WordFault>
     ensures value { map_ok written result ≡ statement_of end (seen_words words.entry) }
 {
-    match operation(words.operation.bytes) {
-        Some(operation) => statement_with(operation, words, end),
-        None => Err(Word::Operation(words.operation).fault(end)),
-    }
+    let typed = Typed { words, end };
+    let Some(operation) = operation(words.operation.bytes) else {
+        return Err(Word::Operation(words.operation).fault(end));
+    };
+    typed.statement_with(operation)
 }
 
-fn statement_with(operation: Operation, words: Words, end: LineEnd) -> Result<Statement, WordFault>
-    ensures value { map_ok written result ≡ statement_with operation end (seen_words words.entry) }
-{
-    match operation {
-        Operation::Combine(how) => combined(how, words, end),
-        Operation::Open(bracket) => finished(Statement::Open(bracket), words.operand, end),
-        Operation::Close => finished(Statement::Close, words.operand, end),
-        Operation::Set => finished(Statement::Set(stored_bit(words, end)?), words.extra, end),
-        Operation::Reset => finished(Statement::Reset(resettable(words, end)?), words.extra, end),
-        Operation::Assign => finished(Statement::Assign(stored_bit(words, end)?), words.extra, end),
-        Operation::Load => finished(Statement::Load(source(words, end)?), words.extra, end),
-        Operation::LoadCoded => finished(
-            Statement::LoadCoded(coded_source(words, end)?),
-            words.extra,
-            end,
-        ),
-        Operation::Transfer => finished(
-            Statement::Transfer(destination(words, end)?),
-            words.extra,
-            end,
-        ),
-        Operation::Start(kind) => finished(
-            Statement::Start(kind, started_timer(words, end)?),
-            words.extra,
-            end,
-        ),
-        Operation::Count(way) => finished(
-            Statement::Count(way, counted_counter(words, end)?),
-            words.extra,
-            end,
-        ),
-        Operation::Calculate(how) => finished(Statement::Calculate(how), words.operand, end),
-        Operation::Compare(how) => finished(Statement::Compare(how), words.operand, end),
-        Operation::Jump(condition) => jump(condition, words, end),
-        Operation::End(how) => finished(Statement::End(how), words.operand, end),
-        Operation::ChooseData => finished(
-            Statement::ChooseData(chosen_data(words, end)?),
-            words.extra,
-            end,
-        ),
-        Operation::Stop => finished(Statement::Stop, words.operand, end),
-    }
-}
-
-// U, UN, O and ON with a query, and O alone.
-fn combined(how: Combination, words: Words, end: LineEnd) -> Result<Statement, WordFault>
-    ensures value { map_ok written result ≡ statement_with (operations.Combine how) end (seen_words words.entry) }
-{
-    if matches!(how, Combination::Or) && words.operand.bytes.is_empty() {
-        return Ok(Statement::OrBefore);
-    }
-    finished(
-        Statement::Combine(how, query(words, end)?),
-        words.extra,
-        end,
-    )
-}
-
-// A jump to a mark; SPA and SPB can call a block instead.
-fn jump(condition: JumpCondition, words: Words, end: LineEnd) -> Result<Statement, WordFault>
-    ensures value { map_ok written result ≡ statement_with (operations.Jump condition) end (seen_words words.entry) }
-{
-    match condition {
-        JumpCondition::Always => jump_or_call(CallCondition::Always, words, end),
-        JumpCondition::Rlo => jump_or_call(CallCondition::Rlo, words, end),
-        JumpCondition::Zero
-        | JumpCondition::NonZero
-        | JumpCondition::Plus
-        | JumpCondition::Minus
-        | JumpCondition::Overflow => {
-            let mark = marked(words, end)?;
-            let target = Target {
-                mark,
-                statement: None,
-            };
-            finished(Statement::Jump(condition, target), words.extra, end)
+impl Typed<'_> {
+    fn statement_with(self, operation: Operation) -> Result<Statement, WordFault>
+        ensures value { map_ok written result ≡ statement_with operation self.entry.end (seen_words self.entry.words) }
+    {
+        match operation {
+            Operation::Combine(how) => self.combined(how),
+            Operation::Open(bracket) => self.alone(Statement::Open(bracket)),
+            Operation::Close => self.alone(Statement::Close),
+            Operation::Set => self.complete(Statement::Set(self.stored_bit()?)),
+            Operation::Reset => self.complete(Statement::Reset(self.query()?)),
+            Operation::Assign => self.complete(Statement::Assign(self.stored_bit()?)),
+            Operation::Load => self.complete(Statement::Load(self.source()?)),
+            Operation::LoadCoded => self.complete(Statement::LoadCoded(self.coded_source()?)),
+            Operation::Transfer => self.complete(Statement::Transfer(self.destination()?)),
+            Operation::Start(kind) => self.complete(Statement::Start(kind, self.timer()?)),
+            Operation::Count(way) => self.complete(Statement::Count(way, self.counter()?)),
+            Operation::Calculate(how) => self.alone(Statement::Calculate(how)),
+            Operation::Compare(how) => self.alone(Statement::Compare(how)),
+            Operation::Jump(condition) => self.jump(condition),
+            Operation::End(how) => self.alone(Statement::End(how)),
+            Operation::ChooseData => self.complete(Statement::ChooseData(self.chosen_data()?)),
+            Operation::Stop => self.alone(Statement::Stop),
         }
     }
-}
 
-fn jump_or_call(
-    condition: CallCondition,
-    words: Words,
-    end: LineEnd,
-) -> Result<Statement, WordFault>
-    ensures value { map_ok written result ≡ and_then (operand_among is_goal end (seen_words words.entry)) (λ x. complete end (seen_words words.entry).extra (plain (operations.Jump (call_jump condition)) x)) }
-{
-    match read_letters(words.operand.bytes) {
-        Some(Letters::Jump) => {
-            let mark = jump_mark(words, end)?;
-            let target = Target {
-                mark,
-                statement: None,
-            };
-            finished(Statement::Jump(condition.jump(), target), words.extra, end)
+    // The complete statement, where nothing stands behind its operand.
+    fn complete(self, statement: Statement) -> Result<Statement, WordFault>
+        ensures value { map_ok written result ≡ complete self.entry.end (seen_words self.entry.words).extra (written statement) }
+    {
+        finished(statement, self.words.extra, self.end)
+    }
+
+    // The complete statement, where nothing stands behind its operation.
+    fn alone(self, statement: Statement) -> Result<Statement, WordFault>
+        ensures value { map_ok written result ≡ complete self.entry.end (seen_words self.entry.words).operand (written statement) }
+    {
+        finished(statement, self.words.operand, self.end)
+    }
+
+    // The letters of the operand, or none.
+    fn letters(self) -> Option<Letters>
+        ensures value { result ≡ letters_of (seen_words self.entry.words).operand.bytes }
+    {
+        read_letters(self.words.operand.bytes)
+    }
+
+    // The fault of an operand that the operation does not take.
+    fn operand_fault(self) -> WordFault
+        ensures value { result ≡ fault_at self.entry.end kind.Operand (seen_words self.entry.words).operand }
+    {
+        Word::Operand(self.words.operand).fault(self.end)
+    }
+
+    // What the number behind the letters is read as.
+    fn number<T>(self, value: Option<T>) -> Result<T, WordFault>
+        ensures value { result ≡ expect value self.entry.end kind.Number (seen_words self.entry.words).value }
+    {
+        value.ok_or(Word::Number(self.words.value).fault(self.end))
+    }
+
+    // The mark behind the =.
+    fn mark(self) -> Result<Mark, WordFault>
+        ensures value { map_ok (λ m. mark (mark_text m)) result ≡ behind self.entry.end (seen_words self.entry.words) letters.Jump }
+    {
+        mark_value(self.words.value.bytes).ok_or(Word::Mark(self.words.value).fault(self.end))
+    }
+
+    // U, UN, O and ON with a query, and O alone.
+    fn combined(self, how: Combination) -> Result<Statement, WordFault>
+        ensures value { map_ok written result ≡ statement_with (operations.Combine how) self.entry.end (seen_words self.entry.words) }
+    {
+        if matches!(how, Combination::Or) && self.words.operand.is_missing() {
+            return Ok(Statement::OrBefore);
         }
-        Some(Letters::Block(kind)) => {
-            let called = block_name(kind, words, end)?;
-            finished(Statement::Call(condition, called), words.extra, end)
+        self.complete(Statement::Combine(how, self.query()?))
+    }
+
+    // A jump to a mark; SPA and SPB can call a block instead.
+    fn jump(self, condition: JumpCondition) -> Result<Statement, WordFault>
+        ensures value { map_ok written result ≡ statement_with (operations.Jump condition) self.entry.end (seen_words self.entry.words) }
+    {
+        match condition {
+            JumpCondition::Always => self.jump_or_call(CallCondition::Always),
+            JumpCondition::Rlo => self.jump_or_call(CallCondition::Rlo),
+            JumpCondition::Zero
+            | JumpCondition::NonZero
+            | JumpCondition::Plus
+            | JumpCondition::Minus
+            | JumpCondition::Overflow => match self.letters() {
+                Some(Letters::Jump) => self.jump_to_mark(condition),
+                _ => Err(self.operand_fault()),
+            },
         }
-        _ => Err(Word::Operand(words.operand).fault(end)),
+    }
+
+    fn jump_or_call(self, condition: CallCondition) -> Result<Statement, WordFault>
+        ensures value { map_ok written result ≡ and_then (operand_among is_goal self.entry.end (seen_words self.entry.words)) (λ x. complete self.entry.end (seen_words self.entry.words).extra (plain (operations.Jump (call_jump condition)) x)) }
+    {
+        match self.letters() {
+            Some(Letters::Jump) => self.jump_to_mark(JumpCondition::from(condition)),
+            Some(Letters::Block(kind)) => {
+                let number = self.number(byte_value(self.words.value.bytes))?;
+                self.complete(Statement::Call(condition, BlockName { kind, number }))
+            }
+            _ => Err(self.operand_fault()),
+        }
+    }
+
+    // The jump to the mark behind the =.
+    fn jump_to_mark(self, condition: JumpCondition) -> Result<Statement, WordFault>
+        ensures value { map_ok written result ≡ and_then (behind self.entry.end (seen_words self.entry.words) letters.Jump) (λ x. complete self.entry.end (seen_words self.entry.words).extra (plain (operations.Jump condition) x)) }
+    {
+        let target = Target {
+            mark: self.mark()?,
+            statement: None,
+        };
+        self.complete(Statement::Jump(condition, target))
+    }
+
+    // U, UN, O and ON ask a bit, a timer or a counter, and R resets one.
+    fn query(self) -> Result<Query, WordFault>
+        ensures value { map_ok query_operand result ≡ operand_among is_query self.entry.end (seen_words self.entry.words) }
+    {
+        let value = self.words.value.bytes;
+        match self.letters() {
+            Some(Letters::Area(area)) => Ok(Query::Bit(self.number(bit_value(area, value))?)),
+            Some(Letters::Timer) => Ok(Query::Timer(self.number(timer_value(value))?)),
+            Some(Letters::Counter) => Ok(Query::Counter(self.number(counter_value(value))?)),
+            _ => Err(self.operand_fault()),
+        }
+    }
+
+    // S and = store a bit.
+    fn stored_bit(self) -> Result<Bit, WordFault>
+        ensures value { map_ok bit_operand result ≡ operand_among is_bit self.entry.end (seen_words self.entry.words) }
+    {
+        match self.letters() {
+            Some(Letters::Area(area)) => self.number(bit_value(area, self.words.value.bytes)),
+            _ => Err(self.operand_fault()),
+        }
+    }
+
+    // L loads a byte, word or double word, a data place, a constant, a timer or a counter.
+    fn source(self) -> Result<Source, WordFault>
+        ensures value { map_ok source_operand result ≡ operand_among is_source self.entry.end (seen_words self.entry.words) }
+    {
+        let value = self.words.value.bytes;
+        match self.letters() {
+            Some(Letters::Span(area, width)) => {
+                Ok(Source::Span(self.number(span_value(area, width, value))?))
+            }
+            Some(Letters::Data(part)) => Ok(Source::Data(self.number(data_value(part, value))?)),
+            Some(Letters::Byte) => Ok(Source::Byte(self.number(byte_value(value))?)),
+            Some(Letters::Double) => Ok(Source::Double(self.number(double_value(value))?)),
+            Some(Letters::Timer) => Ok(Source::Timer(self.number(timer_value(value))?)),
+            Some(Letters::Counter) => Ok(Source::Counter(self.number(counter_value(value))?)),
+            _ => Err(self.operand_fault()),
+        }
+    }
+
+    // LC loads a timer or a counter.
+    fn coded_source(self) -> Result<CodedSource, WordFault>
+        ensures value { map_ok coded_operand result ≡ operand_among is_coded self.entry.end (seen_words self.entry.words) }
+    {
+        let value = self.words.value.bytes;
+        match self.letters() {
+            Some(Letters::Timer) => Ok(CodedSource::Timer(self.number(timer_value(value))?)),
+            Some(Letters::Counter) => Ok(CodedSource::Counter(self.number(counter_value(value))?)),
+            _ => Err(self.operand_fault()),
+        }
+    }
+
+    // T stores in a byte, word or double word, or in a data place.
+    fn destination(self) -> Result<Destination, WordFault>
+        ensures value { map_ok destination_operand result ≡ operand_among is_destination self.entry.end (seen_words self.entry.words) }
+    {
+        let value = self.words.value.bytes;
+        match self.letters() {
+            Some(Letters::Span(area, width)) => {
+                Ok(Destination::Span(self.number(span_value(area, width, value))?))
+            }
+            Some(Letters::Data(part)) => Ok(Destination::Data(self.number(data_value(
+                part, value,
+            ))?)),
+            _ => Err(self.operand_fault()),
+        }
+    }
+
+    // SI, SV, SE and SS start a timer.
+    fn timer(self) -> Result<TimerName, WordFault>
+        ensures value { map_ok (λ t. timer t.number) result ≡ operand_among is_timer self.entry.end (seen_words self.entry.words) }
+    {
+        match self.letters() {
+            Some(Letters::Timer) => self.number(timer_value(self.words.value.bytes)),
+            _ => Err(self.operand_fault()),
+        }
+    }
+
+    // ZV and ZR count a counter.
+    fn counter(self) -> Result<CounterName, WordFault>
+        ensures value { map_ok (λ z. counter z.number) result ≡ operand_among is_counter self.entry.end (seen_words self.entry.words) }
+    {
+        match self.letters() {
+            Some(Letters::Counter) => self.number(counter_value(self.words.value.bytes)),
+            _ => Err(self.operand_fault()),
+        }
+    }
+
+    // A DB chooses a data block.
+    fn chosen_data(self) -> Result<u8, WordFault>
+        ensures value { map_ok data_block result ≡ operand_among is_data_block self.entry.end (seen_words self.entry.words) }
+    {
+        match self.letters() {
+            Some(Letters::DataBlock) => self.number(byte_value(self.words.value.bytes)),
+            _ => Err(self.operand_fault()),
+        }
     }
 }
 
@@ -144,7 +267,7 @@ fn jump_or_call(
 fn finished(statement: Statement, behind: Part, end: LineEnd) -> Result<Statement, WordFault>
     ensures value { map_ok written result ≡ complete end (seen behind.entry) (written statement) }
 {
-    if behind.bytes.is_empty() {
+    if behind.is_missing() {
         return Ok(statement);
     }
     Err(WordFault {
@@ -153,199 +276,4 @@ fn finished(statement: Statement, behind: Part, end: LineEnd) -> Result<Statemen
         line: end.line,
         column: behind.column,
     })
-}
-
-// U, UN, O and ON ask a bit, a timer or a counter.
-fn query(words: Words, end: LineEnd) -> Result<Query, WordFault>
-    ensures value { map_ok query_operand result ≡ operand_among is_query end (seen_words words.entry) }
-{
-    match read_letters(words.operand.bytes) {
-        Some(Letters::Area(area)) => Ok(Query::Bit(bit(area, words, end)?)),
-        Some(Letters::Timer) => Ok(Query::Timer(timer(words, end)?)),
-        Some(Letters::Counter) => Ok(Query::Counter(counter(words, end)?)),
-        _ => Err(Word::Operand(words.operand).fault(end)),
-    }
-}
-
-// S and = store a bit.
-fn stored_bit(words: Words, end: LineEnd) -> Result<Bit, WordFault>
-    ensures value { map_ok bit_operand result ≡ operand_among is_bit end (seen_words words.entry) }
-{
-    match read_letters(words.operand.bytes) {
-        Some(Letters::Area(area)) => bit(area, words, end),
-        _ => Err(Word::Operand(words.operand).fault(end)),
-    }
-}
-
-// R resets a bit, a timer or a counter.
-fn resettable(words: Words, end: LineEnd) -> Result<Resettable, WordFault>
-    ensures value { map_ok resettable_operand result ≡ operand_among is_query end (seen_words words.entry) }
-{
-    match read_letters(words.operand.bytes) {
-        Some(Letters::Area(area)) => Ok(Resettable::Bit(bit(area, words, end)?)),
-        Some(Letters::Timer) => Ok(Resettable::Timer(timer(words, end)?)),
-        Some(Letters::Counter) => Ok(Resettable::Counter(counter(words, end)?)),
-        _ => Err(Word::Operand(words.operand).fault(end)),
-    }
-}
-
-// L loads a byte, word or double word, a data place, a constant, a timer or a counter.
-fn source(words: Words, end: LineEnd) -> Result<Source, WordFault>
-    ensures value { map_ok source_operand result ≡ operand_among is_source end (seen_words words.entry) }
-{
-    match read_letters(words.operand.bytes) {
-        Some(Letters::Span(area, width)) => Ok(Source::Span(span(area, width, words, end)?)),
-        Some(Letters::Data(part)) => Ok(Source::Data(data(part, words, end)?)),
-        Some(Letters::Byte) => Ok(Source::Byte(byte(words, end)?)),
-        Some(Letters::Double) => signed(words, end),
-        Some(Letters::Timer) => Ok(Source::Timer(timer(words, end)?)),
-        Some(Letters::Counter) => Ok(Source::Counter(counter(words, end)?)),
-        _ => Err(Word::Operand(words.operand).fault(end)),
-    }
-}
-
-// LC loads a timer or a counter.
-fn coded_source(words: Words, end: LineEnd) -> Result<CodedSource, WordFault>
-    ensures value { map_ok coded_operand result ≡ operand_among is_coded end (seen_words words.entry) }
-{
-    match read_letters(words.operand.bytes) {
-        Some(Letters::Timer) => Ok(CodedSource::Timer(timer(words, end)?)),
-        Some(Letters::Counter) => Ok(CodedSource::Counter(counter(words, end)?)),
-        _ => Err(Word::Operand(words.operand).fault(end)),
-    }
-}
-
-// T stores in a byte, word or double word, or in a data place.
-fn destination(words: Words, end: LineEnd) -> Result<Destination, WordFault>
-    ensures value { map_ok destination_operand result ≡ operand_among is_destination end (seen_words words.entry) }
-{
-    match read_letters(words.operand.bytes) {
-        Some(Letters::Span(area, width)) => Ok(Destination::Span(span(area, width, words, end)?)),
-        Some(Letters::Data(part)) => Ok(Destination::Data(data(part, words, end)?)),
-        _ => Err(Word::Operand(words.operand).fault(end)),
-    }
-}
-
-// SI, SV, SE and SS start a timer.
-fn started_timer(words: Words, end: LineEnd) -> Result<TimerName, WordFault>
-    ensures value { map_ok (λ t. timer t.number) result ≡ operand_among is_timer end (seen_words words.entry) }
-{
-    match read_letters(words.operand.bytes) {
-        Some(Letters::Timer) => timer(words, end),
-        _ => Err(Word::Operand(words.operand).fault(end)),
-    }
-}
-
-// ZV and ZR count a counter.
-fn counted_counter(words: Words, end: LineEnd) -> Result<CounterName, WordFault>
-    ensures value { map_ok (λ z. counter z.number) result ≡ operand_among is_counter end (seen_words words.entry) }
-{
-    match read_letters(words.operand.bytes) {
-        Some(Letters::Counter) => counter(words, end),
-        _ => Err(Word::Operand(words.operand).fault(end)),
-    }
-}
-
-// SPZ, SPN, SPP, SPM and SPO go to a mark.
-fn marked(words: Words, end: LineEnd) -> Result<Mark, WordFault>
-    ensures value { map_ok (λ m. mark (mark_text m)) result ≡ operand_among is_marked end (seen_words words.entry) }
-{
-    match read_letters(words.operand.bytes) {
-        Some(Letters::Jump) => jump_mark(words, end),
-        _ => Err(Word::Operand(words.operand).fault(end)),
-    }
-}
-
-// A DB chooses a data block.
-fn chosen_data(words: Words, end: LineEnd) -> Result<u8, WordFault>
-    ensures value { map_ok data_block result ≡ operand_among is_data_block end (seen_words words.entry) }
-{
-    match read_letters(words.operand.bytes) {
-        Some(Letters::DataBlock) => byte(words, end),
-        _ => Err(Word::Operand(words.operand).fault(end)),
-    }
-}
-
-fn bit(area: Area, words: Words, end: LineEnd) -> Result<Bit, WordFault>
-    ensures value { map_ok bit_operand result ≡ behind end (seen_words words.entry) (letters.Area area) }
-{
-    match bit_value(area, words.value.bytes) {
-        Some(bit) => Ok(bit),
-        None => Err(Word::Number(words.value).fault(end)),
-    }
-}
-
-fn span(area: Area, width: Width, words: Words, end: LineEnd) -> Result<Span, WordFault>
-    ensures value { map_ok span_operand result ≡ behind end (seen_words words.entry) (letters.Span area width) }
-{
-    match span_value(area, width, words.value.bytes) {
-        Some(span) => Ok(span),
-        None => Err(Word::Number(words.value).fault(end)),
-    }
-}
-
-fn data(part: DataPart, words: Words, end: LineEnd) -> Result<DataPlace, WordFault>
-    ensures value { map_ok data_operand result ≡ behind end (seen_words words.entry) (letters.Data part) }
-{
-    match data_value(part, words.value.bytes) {
-        Some(place) => Ok(place),
-        None => Err(Word::Number(words.value).fault(end)),
-    }
-}
-
-fn timer(words: Words, end: LineEnd) -> Result<TimerName, WordFault>
-    ensures value { map_ok (λ t. timer t.number) result ≡ behind end (seen_words words.entry) letters.Timer }
-{
-    match timer_value(words.value.bytes) {
-        Some(timer) => Ok(timer),
-        None => Err(Word::Number(words.value).fault(end)),
-    }
-}
-
-fn counter(words: Words, end: LineEnd) -> Result<CounterName, WordFault>
-    ensures value { map_ok (λ z. counter z.number) result ≡ behind end (seen_words words.entry) letters.Counter }
-{
-    match counter_value(words.value.bytes) {
-        Some(counter) => Ok(counter),
-        None => Err(Word::Number(words.value).fault(end)),
-    }
-}
-
-// A number of one byte: a constant, or the number of a block or data block.
-fn byte(words: Words, end: LineEnd) -> Result<u8, WordFault>
-    ensures value { result ≡ expect (byte_of (seen_words words.entry).value.bytes) end kind.Number (seen_words words.entry).value }
-{
-    match byte_value(words.value.bytes) {
-        Some(n) => Ok(n),
-        None => Err(Word::Number(words.value).fault(end)),
-    }
-}
-
-// The block of a kind and a number of one byte.
-fn block_name(kind: BlockKind, words: Words, end: LineEnd) -> Result<BlockName, WordFault>
-    ensures value { map_ok (λ b. block b.kind b.number) result ≡ behind end (seen_words words.entry) (letters.Block kind) }
-{
-    match byte_value(words.value.bytes) {
-        Some(number) => Ok(BlockName { kind, number }),
-        None => Err(Word::Number(words.value).fault(end)),
-    }
-}
-
-// A constant of 32 bits with a sign.
-fn signed(words: Words, end: LineEnd) -> Result<Source, WordFault>
-    ensures value { map_ok source_operand result ≡ behind end (seen_words words.entry) letters.Double }
-{
-    match double_value(words.value.bytes) {
-        Some(n) => Ok(Source::Double(n)),
-        None => Err(Word::Number(words.value).fault(end)),
-    }
-}
-
-fn jump_mark(words: Words, end: LineEnd) -> Result<Mark, WordFault>
-    ensures value { map_ok (λ m. mark (mark_text m)) result ≡ behind end (seen_words words.entry) letters.Jump }
-{
-    match mark_value(words.value.bytes) {
-        Some(mark) => Ok(mark),
-        None => Err(Word::Mark(words.value).fault(end)),
-    }
 }
