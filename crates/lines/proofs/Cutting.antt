@@ -1,5 +1,5 @@
 -- A text cut behind its first line. Assumes nothing.
-use Rattle.std.proofs.Common.{◌≡◌, ℕ, suc, ◌+◌, ◌<◌, Bool, true, false, cond, not, ◌==◌, eqb, List, [], ◌∷◌, length, take, drop, sym, refl, ap, ◌∙◌, arith}
+use Rattle.std.proofs.Common.{◌≡◌, ℕ, suc, ◌+◌, ◌<◌, ◌≤◌, Bool, true, false, cond, not, ◌==◌, eqb, List, [], ◌∷◌, length, take, drop, sym, refl, ap, ◌∙◌, arith}
 use Rattle.std.specs.List.{prefix_len}
 use Rattle.std.proofs.lemmas.List.{drop-drop}
 use Rattle.std.proofs.lemmas.List.Folds.{length-prefix_len}
@@ -35,3 +35,16 @@ line_taken (c ∷ t) line behind rest n e k l b r =
     let joined = drop-drop 1 n (c ∷ t) in
     let cut = line_cut (c ∷ t) (omega arith) in
     cc
+
+prepend_few : (b : ℕ) (ls : List (List ℕ)) → length (prepend b ls) ≤ length ls + 1
+prepend_few b [] = omega arith
+prepend_few b (l ∷ ls) = omega arith
+
+-- a text has no more lines than bytes
+pub lines_few : (t : List ℕ) → length (lines_of t) ≤ length t
+lines_few [] = omega arith
+lines_few (b ∷ t) = at (b == 10) (lines_few t)
+  where
+    at : (e : Bool) → length (lines_of t) ≤ length t → length (cond e ([] ∷ lines_of t) (prepend b (lines_of t))) ≤ length (b ∷ t)
+    at true h = omega arith
+    at false h = omega (arith, prepend_few b (lines_of t))

@@ -24,9 +24,11 @@ impl<'a> Model for Lines<'a> {
 }
 
 impl<'a> Lines<'a> {
-    // All lines of a text.
+    // All lines of a text, which are no more than it has bytes.
+    #[tactic(auto, using(crate::proofs::Cutting::lines_few))]
     pub fn of(text: &'a [u8]) -> Lines<'a>
         ensures value { result ≡ text.now }
+        ensures few { length (lines_of text.now) ≤ length text.now }
     {
         Lines { rest: text }
     }

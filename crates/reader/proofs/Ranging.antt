@@ -1,6 +1,6 @@
 -- Every place that a statement names is in its range: its type says so. Assumes nothing.
 use Rattle.std.proofs.Common.{◌≡◌, ℕ, zero, suc, ◌<◌, List, [], ◌∷◌, map, length, get_or, take, IfOk, Ok, Err, Result, sym, arith}
-use Rattle.awl.specs.Written.{operand_of, query_operand, source_operand, coded_operand, destination_operand, resettable_operand}
+use Rattle.awl.specs.Written.{operand_of, query_operand, source_operand, coded_operand, destination_operand}
 use Rattle.awl.specs.declared.statements.Query.{Query}
 use Rattle.awl.specs.declared.statements.Query.TheVariants as query
 use Rattle.awl.specs.declared.statements.Source.{Source}
@@ -9,8 +9,6 @@ use Rattle.awl.specs.declared.statements.CodedSource.{CodedSource}
 use Rattle.awl.specs.declared.statements.CodedSource.TheVariants as coded
 use Rattle.awl.specs.declared.statements.Destination.{Destination}
 use Rattle.awl.specs.declared.statements.Destination.TheVariants as destination
-use Rattle.awl.specs.declared.statements.Resettable.{Resettable}
-use Rattle.awl.specs.declared.statements.Resettable.TheVariants as resettable
 use Rattle.awl.specs.declared.statements.Statement.{Statement}
 use Rattle.awl.specs.declared.statements.Statement.TheVariants.{Combine, OrBefore, Open, Close, Set, Reset, Assign, Load, LoadCoded, Transfer, Start, Count, Calculate, Compare, Jump, Call, End, ChooseData, Stop}
 use Rattle.reader.specs.Laws.{InRange, Lawful}

@@ -1,6 +1,7 @@
 -- The lines of a text, and what stands in a line: its code, its colon, its mark. It assumes nothing.
 use Rattle.std.specs.Prelude.{ℕ, ◌+◌, Bool, cond, ◌&&◌, List, [], ◌∷◌, length, take, Some, None, Ok, Err, Option, Result, ◌==◌, nat_lt}
 use Rattle.std.specs.List.{prefix_len}
+pub use Rattle.lines.specs.Lines.{lines_of, prepend}
 use Rattle.awl.specs.Alphabet.{in_class}
 use Rattle.awl.specs.MarkText.{is_mark}
 use Rattle.awl.specs.declared.bytes.ByteClass.TheVariants.{Printable, InLine, Space, BeforeComment, BeforeColon}
@@ -11,16 +12,6 @@ use Rattle.lexer.specs.declared.faults.WordFault.{WordFault}
 use Rattle.reader.specs.declared.faults.LineFault.{LineFault}
 use Rattle.reader.specs.declared.faults.LineFault.TheVariants.{Byte, Colon, Word}
 use Rattle.lexer.specs.declared.words.LineEnd.{LineEnd}
-
--- one byte more in front of the first line
-abbrev pub prepend : ℕ → List (List ℕ) → List (List ℕ)
-prepend b [] = (b ∷ []) ∷ []
-prepend b (l ∷ ls) = (b ∷ l) ∷ ls
-
--- the lines of a text: each ends at byte 10, which the last may lack
-abbrev pub lines_of : List ℕ → List (List ℕ)
-lines_of [] = []
-lines_of (b ∷ bs) = cond (b == 10) ([] ∷ lines_of bs) (prepend b (lines_of bs))
 
 -- the bytes up to the first byte 10
 abbrev pub first_line : List ℕ → List ℕ

@@ -20,6 +20,7 @@ use awl::marks::Mark;
 use awl::statements::{Statement, Target};
 use lexer::faults::WordFault;
 use lexer::words::{LineEnd, Word, word_from, words_from};
+use lines::Lines;
 use parser::statements::statement_from;
 
 // The statements of the text, each jump with the statement that carries its mark, or the first fault.
@@ -37,10 +38,8 @@ impl Block {
         ensures test { is_some result ≡ (nat_le 1 number && nat_le number self.now.count) }
         ensures value { IfSome result (λ l. slice_index_or (listed self.now.lines self.now.count) (number - 1) (entry l) ≡ entry l) }
     {
-        if number >= 1 && (number as usize) <= self.count {
-            return Some(self.lines[number as usize - 1]);
-        }
-        None
+        let index = usize::from(number).checked_sub(1)?;
+        self.lines().get(index).copied()
     }
 }
 
@@ -49,7 +48,7 @@ pub fn line_at(text: &[u8], at: usize) -> &[u8]
     ensures value { result.now ≡ first_line (drop at text.now) }
 {
     let rest = tail(text, at);
-    &rest[0..ByteClass::InLine.front(rest)]
+    &rest[..ByteClass::InLine.front(rest)]
 }
 
 // The text's statements by the definition alone.
@@ -67,32 +66,20 @@ fn read_block(text: &[u8]) -> Result<Block, BlockFault>
     })
 }
 
-// The mark without its place.
-fn unplaced(mark: Option<PlacedMark>) -> Option<Mark>
-    ensures value { result ≡ option_map (λ p. p.mark) mark }
-{
-    match mark {
-        Some(placed) => Some(placed.mark),
-        None => None,
-    }
-}
-
 // Refuses a mark that an earlier statement carries.
 fn check_mark(listing: &Listing, number: usize, mark: Option<PlacedMark>) -> Result<(), BlockFault>
     ensures value { result ≡ fresh_mark (listed listing.now.lines listing.now.count) number (option_map placed_seen mark) }
 {
-    match mark {
-        Some(placed) => {
-            if listing.carrier(&placed.mark).is_some() {
-                return Err(BlockFault::MarkTwice {
-                    line: number,
-                    column: placed.column,
-                });
-            }
-            Ok(())
-        }
-        None => Ok(()),
+    let Some(placed) = mark else {
+        return Ok(());
+    };
+    if listing.carrier(&placed.mark).is_some() {
+        return Err(BlockFault::MarkTwice {
+            line: number,
+            column: placed.column,
+        });
     }
+    Ok(())
 }
 
 // The statement of a line that holds one.
@@ -105,7 +92,7 @@ fn entry_of(listing: &Listing, number: usize, line: &[u8]) -> Result<Line, Block
     let statement = statement_of(number, line, head.behind)?;
     Ok(Line {
         number,
-        mark: unplaced(head.mark),
+        mark: head.mark.map(|placed| placed.mark),
         statement,
     })
 }
@@ -132,15 +119,13 @@ fn resolved_line(listing: &Listing, line: Line) -> Line
 {
     match line.statement {
         Statement::Jump(condition, target) => {
-            let statement = listing.carrier(&target.mark);
             let target = Target {
-                mark: target.mark,
-                statement,
+                statement: listing.carrier(&target.mark),
+                ..target
             };
             Line {
-                number: line.number,
-                mark: line.mark,
                 statement: Statement::Jump(condition, target),
+                ..line
             }
         }
         _ => line,
@@ -153,10 +138,17 @@ fn resolved_lines(listing: &Listing) -> [Line; 255]
     ensures size { length result ≡ 255 }
 {
     let mut lines = listing.lines;
-    for i in 0..listing.count {
-        lines[i] = resolved_line(listing, listing.lines[i]);
-    }
+    resolve(listing, &mut lines[..listing.count]);
     lines
+}
+
+// Looks up the jump of each line.
+fn resolve(listing: &Listing, lines: &mut [Line])
+    ensures after { map entry lines.new ≡ map (resolved (listed listing.now.lines listing.now.count)) (map entry lines.old) }
+{
+    for line in lines.iter_mut() {
+        *line = resolved_line(listing, *line);
+    }
 }
 
 // All lines of the text, jumps not yet looked up.
@@ -164,15 +156,10 @@ fn read_lines(text: &[u8]) -> Result<Listing, BlockFault>
     ensures value { map_ok (λ l. listed l.lines l.count) result ≡ lines_read [] 1 (lines_of text.now) }
 {
     let mut listing = Listing::new();
-    let mut at = 0;
-    let mut number = 1;
-    while at < text.len() {
-        let line = line_at(text, at);
-        if let Some(entry) = line_entry(&listing, number, line)? {
+    for (index, line) in Lines::of(text).enumerate() {
+        if let Some(entry) = line_entry(&listing, index + 1, line)? {
             listing.add(entry);
         }
-        at += line.len() + 1;
-        number += 1;
     }
     Ok(listing)
 }
@@ -182,10 +169,7 @@ impl Line {
     fn carries(&self, mark: &Mark) -> bool
         ensures value { result ≡ carries_mark (option_map mark_text self.now.mark) (mark_text mark.now) }
     {
-        match self.mark {
-            Some(own) => own.is(mark),
-            None => false,
-        }
+        self.mark.is_some_and(|own| own.is(mark))
     }
 }
 
@@ -220,8 +204,8 @@ impl Listing {
     fn carrier(&self, mark: &Mark) -> Option<u8>
         ensures value { result ≡ carrier (listed self.now.lines self.now.count) (mark_text mark.now) }
     {
-        for i in 0..self.count {
-            if self.lines[i].carries(mark) {
+        for (i, line) in self.lines().iter().enumerate() {
+            if line.carries(mark) {
                 return Some((i + 1) as u8);
             }
         }
@@ -233,7 +217,7 @@ impl Listing {
 pub fn code_of(line: &[u8]) -> &[u8]
     ensures value { result.now ≡ code_of line.now }
 {
-    &line[0..ByteClass::BeforeComment.front(line)]
+    &line[..ByteClass::BeforeComment.front(line)]
 }
 
 // Whether anything but spaces stands before the comment.
@@ -274,11 +258,11 @@ fn mark_before(before: &[u8], end: LineEnd) -> Result<Option<PlacedMark>, WordFa
 {
     let first = word_from(before, 1);
     let second = word_from(before, first.column + first.bytes.len());
-    if first.bytes.is_empty() {
+    if first.is_missing() {
         return Ok(None);
     }
     match Mark::new(first.bytes) {
-        Some(mark) if second.bytes.is_empty() => Ok(Some(PlacedMark {
+        Some(mark) if second.is_missing() => Ok(Some(PlacedMark {
             mark,
             column: first.column,
         })),
@@ -298,7 +282,7 @@ fn head_of(number: usize, line: &[u8]) -> Result<Head, LineFault>
             column: line.len() + 1,
         });
     }
-    let mark = mark_before(&code[0..colon], end_of(number, line))?;
+    let mark = mark_before(&code[..colon], end_of(number, line))?;
     Ok(Head {
         mark,
         behind: colon + 2,

@@ -44,8 +44,8 @@ impl LineFault {
         ensures value { result ≡ line_refusal self }
     {
         match self {
-            LineFault::Byte { line: _, column: _ } => Refusal::Byte,
-            LineFault::Colon { line: _, column: _ } => Refusal::Operation,
+            LineFault::Byte { .. } => Refusal::Byte,
+            LineFault::Colon { .. } => Refusal::Operation,
             LineFault::Word(fault) => fault.kind.refusal(),
         }
     }
@@ -55,8 +55,7 @@ impl LineFault {
         ensures value { result ≡ line_of_line self }
     {
         match self {
-            LineFault::Byte { line, column: _ } => line,
-            LineFault::Colon { line, column: _ } => line,
+            LineFault::Byte { line, .. } | LineFault::Colon { line, .. } => line,
             LineFault::Word(fault) => fault.line,
         }
     }
@@ -66,8 +65,7 @@ impl LineFault {
         ensures value { result ≡ column_of_line self }
     {
         match self {
-            LineFault::Byte { line: _, column } => column,
-            LineFault::Colon { line: _, column } => column,
+            LineFault::Byte { column, .. } | LineFault::Colon { column, .. } => column,
             LineFault::Word(fault) => fault.column,
         }
     }
@@ -79,9 +77,8 @@ impl BlockFault {
     {
         match self {
             BlockFault::Line(fault) => fault.refusal(),
-            BlockFault::MarkTwice { line: _, column: _ } => Refusal::Mark,
-            BlockFault::Full { line: _ } => Refusal::StatementCount,
-            BlockFault::Empty => Refusal::StatementCount,
+            BlockFault::MarkTwice { .. } => Refusal::Mark,
+            BlockFault::Full { .. } | BlockFault::Empty => Refusal::StatementCount,
         }
     }
 
@@ -91,8 +88,7 @@ impl BlockFault {
     {
         match self {
             BlockFault::Line(fault) => fault.line(),
-            BlockFault::MarkTwice { line, column: _ } => line,
-            BlockFault::Full { line } => line,
+            BlockFault::MarkTwice { line, .. } | BlockFault::Full { line } => line,
             BlockFault::Empty => 0,
         }
     }
@@ -103,8 +99,8 @@ impl BlockFault {
     {
         match self {
             BlockFault::Line(fault) => fault.column(),
-            BlockFault::MarkTwice { line: _, column } => column,
-            BlockFault::Full { line: _ } => 1,
+            BlockFault::MarkTwice { column, .. } => column,
+            BlockFault::Full { .. } => 1,
             BlockFault::Empty => 0,
         }
     }

@@ -1,5 +1,5 @@
 // The statements of a block as they are read, at most 255. It knows nothing of text.
-ghost use Rattle.std.specs.Prelude.{◌≡◌, ℕ, ◌≤◌, length};
+ghost use Rattle.std.specs.Prelude.{◌≡◌, ℕ, ◌≤◌, length, take};
 
 use awl::marks::Mark;
 use awl::statements::Statement;
@@ -12,7 +12,8 @@ pub struct Line {
     pub statement: Statement,
 }
 
-// The first `count` of the lines are read.
+// The first `count` of the lines are read. A row of lines with its count: nothing is allocated, and what is read is copied
+// as a whole.
 #[derive(Clone, Copy)]
 pub struct Listing {
     pub lines: [Line; 255],
@@ -21,7 +22,8 @@ pub struct Listing {
     ghost few: { count ≤ 255 },
 }
 
-// The statements of a block: the first `count` of the lines, 1 to 255.
+// The statements of a block: the first `count` of the lines, 1 to 255. With the fields of a listing and not over one, so
+// that who reads a block's lines need not know of listings.
 #[derive(Clone, Copy)]
 pub struct Block {
     pub lines: [Line; 255],
@@ -29,4 +31,22 @@ pub struct Block {
     ghost room: { length lines ≡ 255 },
     ghost few: { count ≤ 255 },
     ghost some: { 1 ≤ count },
+}
+
+impl Listing {
+    // The lines that are read.
+    pub fn lines(&self) -> &[Line]
+        ensures value { result.now ≡ take self.now.count self.now.lines }
+    {
+        &self.lines[..self.count]
+    }
+}
+
+impl Block {
+    // The lines of its statements.
+    pub fn lines(&self) -> &[Line]
+        ensures value { result.now ≡ take self.now.count self.now.lines }
+    {
+        &self.lines[..self.count]
+    }
 }

@@ -1,23 +1,33 @@
-use Rattle.std.proofs.Common.{◌≡◌, ◌++◌, ◌∙◌, arith, rules}
-use Rattle.std.specs.Option.{option_map, option_to_list}
+use Rattle.std.proofs.Common.{rules, ◌≡◌, ℕ, ◌+◌, ◌-◌, ◌<◌, ◌≤◌, ◌&&◌, [], ◌∷◌, ◌++◌, map, length, drop, is_some, IfSome, IfOk, if◌then◌else◌, OnSome, nat_le, nat_lt, slice_index_or, ◌*◌, ◌/◌, ◌%◌, Bool, true, false, nat_eq, List, slice_set, bit_and, bit_or, Fits, w8, w32, w64, Bor, MutBor}
+use Rattle.std.specs.Option.{option_map}
+use Rattle.awl.specs.Written.{mark_text}
+use Rattle.lexer.specs.Words.{words_from}
+use Rattle.parser.specs.Answers.{map_ok, map_err}
+use Rattle.parser.specs.Statements.{written, statement_of}
+use Rattle.reader.specs.Laws.{Lawful, IdleLinesOnlyMove}
+use Rattle.reader.specs.Lines.{lines_of, first_line, code_of, holds, line_end, sound, mark_before, head_of}
 use Rattle.reader.specs.Listed.{entry, listed}
-use Rattle.reader.proofs.Lining.{read_more, read_fault, read_end}
+use Rattle.reader.specs.Marked.{placed_seen, head_seen}
+use Rattle.reader.specs.Reading.{carries_mark, carrier, fresh_mark, entry_of, line_entry, lines_read, resolved, reading}
+use Rattle.reader.specs.declared.faults.LineFault.TheVariants.{Word as WordOf}
 use Rattle.reader.proofs.blocks.read_lines.Goals as goal
-use Rattle.reader.proofs.blocks.read_lines.Goals.{in-Some, in_default}
 
-pub loop-at-preserved : goal.loop-at-preserved
-loop-at-preserved c =
-    let added : listed c.match-branch-2.listing.lines c.match-branch-2.listing.count ≡ listed c.loop-at.listing.lines c.loop-at.listing.count ++ option_to_list (option_map entry c.in_ok-entry.field-0) =
-    elim c.match-branch-2.branch [ in-Some w ↦ search rules | in_default w ↦ search rules ] in
-    (omega arith, read_more (listed c.loop-at.listing.lines c.loop-at.listing.count) (listed c.match-branch-2.listing.lines c.match-branch-2.listing.count) c.loop-at.number c.args.text.now c.line_at-line.result.now c.loop-at.at (option_map entry c.in_ok-entry.field-0) c.loop-at-test.true c.line_at-line.ensures.value c.in_ok-entry.ensures.value added ∙ c.loop-at.invariant.1)
+-- src/blocks.rt:159:5
+pub loop-index-init : goal.loop-index-init
+loop-index-init c = ?
 
+-- src/blocks.rt:160:30
 pub returns-in_err-entry : goal.returns-in_err-entry
-returns-in_err-entry c =
-    let fault = read_fault (listed c.loop-at.listing.lines c.loop-at.listing.count) c.loop-at.number c.args.text.now c.line_at-line.result.now c.loop-at.at c.in_err-entry.field-0.0 c.loop-at-test.true c.line_at-line.ensures.value c.in_err-entry.ensures.value ∙ c.loop-at.invariant.1 in
-    search rules
+returns-in_err-entry c = ?
 
+-- src/blocks.rt:159:5
+pub loop-index-preserved-in-Some-2 : goal.loop-index-preserved-in-Some-2
+loop-index-preserved-in-Some-2 c = ?
+
+-- src/blocks.rt:159:5
+pub loop-index-preserved : goal.loop-index-preserved
+loop-index-preserved c = ?
+
+-- src/blocks.rt:155:1
 pub returns : goal.returns
-returns c =
-    record {
-      value = read_end (listed c.loop-at.listing.lines c.loop-at.listing.count) c.loop-at.number c.args.text.now c.loop-at.at c.loop-at-test.false ∙ c.loop-at.invariant.1;
-    }
+returns c = ?
