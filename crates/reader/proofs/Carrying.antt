@@ -1,53 +1,27 @@
--- The listed statements: one more, and the search for the statement that carries a mark. Assumes nothing.
-use Rattle.std.proofs.Common.{◌≡◌, ℕ, ◌+◌, ◌<◌, ◌≤◌, Bool, true, false, cond, List, [], ◌∷◌, ◌++◌, map, length, get_or, take, drop, set, Some, None, ap, ◌∙◌, arith}
-use Rattle.std.proofs.lemmas.List.{take_more_set, map_push, at_drop_more, at_drop_all, get_or-map, get_or-take, length-map, length-take-le, map_more, take_all}
+-- The listed statements: how many there are, and one more with its jump looked up. Assumes nothing.
+use Rattle.std.proofs.Common.{◌≡◌, ℕ, ◌+◌, ◌<◌, ◌≤◌, List, map, length, get_or, take, drop, set, ap, ◌∙◌, arith}
+use Rattle.std.proofs.lemmas.List.{take_more, take_more_set, map_push, at_drop_more, length-drop, drop-set-lt, length-map, length-take-le}
 use Rattle.reader.specs.Listed.{entry, listed}
-use Rattle.reader.specs.Reading.{Entry, carries_mark, carrier_from}
+use Rattle.reader.specs.Reading.{Entry}
 use Rattle.reader.specs.declared.listings.Line.{Line}
+use Rattle.reader.specs.declared.listings.Listing.{Listing}
 
-pub listed_more : (ls : List Line) (n : ℕ) (x : Line) → n < length ls → listed (set ls n x) (n + 1) ≡ listed ls n ++ entry x ∷ []
-listed_more ls n x h = ap (map entry) (take_more_set ls n x h) ∙ map_push entry (take n ls) x
-
-pub listed-length : (ls : List Line) (n : ℕ) → n ≤ length ls → length (listed ls n) ≡ n
+listed-length : (ls : List Line) (n : ℕ) → n ≤ length ls → length (listed ls n) ≡ n
 listed-length ls n h = length-map (take n ls) entry ∙ length-take-le n ls h
 
-pub listed_at : (ls : List Line) (n i : ℕ) (d : Line) (e : Entry) → i < n → n ≤ length ls → get_or (listed ls n) i e ≡ entry (get_or ls i d)
-listed_at ls n i d e h g =
-    let l : i < length (take n ls) = omega (arith, length-take-le n ls g) in
-    get_or-map entry (take n ls) i d e l ∙ ap entry (get_or-take n ls i d h)
-
-pub listed_here : (ls : List Line) (n i : ℕ) (d : Line) → i < n → n ≤ length ls → get_or (listed ls n) i (entry (get_or ls i d)) ≡ entry (get_or ls i d)
-listed_here ls n i d h g = listed_at ls n i d (entry (get_or ls i d)) h g
-
--- one step of the search, at a statement x that stands at i
-carrier_step : (es : List Entry) (i : ℕ) (m : List ℕ) (x : Entry) (b : Bool) → i < length es → get_or es i x ≡ x → carries_mark x.mark m ≡ b → carrier_from (i + 1) (drop i es) m ≡ cond b (Some (i + 1)) (carrier_from (i + 1 + 1) (drop (i + 1) es) m)
-carrier_step es i m x b h e f =
-    at_drop_more (λ (xs : List Entry). carrier_from (i + 1) xs m) es i x h
-    ∙ ap (λ (c : Bool). cond c (Some (i + 1)) (carrier_from (i + 1 + 1) (drop (i + 1) es) m)) (ap (λ (y : Entry). carries_mark y.mark m) e ∙ f)
-
--- the search passes a statement without the mark, and ends at one with it
-pub carrier_skips : (es : List Entry) (i : ℕ) (m : List ℕ) (x : Entry) → i < length es → get_or es i x ≡ x → carries_mark x.mark m ≡ false → carrier_from (i + 1) (drop i es) m ≡ carrier_from (i + 1 + 1) (drop (i + 1) es) m
-carrier_skips es i m x h e f = carrier_step es i m x false h e f
-
-pub carrier_finds : (es : List Entry) (i : ℕ) (m : List ℕ) (x : Entry) → i < length es → get_or es i x ≡ x → carries_mark x.mark m ≡ true → carrier_from (i + 1) (drop i es) m ≡ Some (i + 1)
-carrier_finds es i m x h e f = carrier_step es i m x true h e f
-
--- the search ends behind the last statement
-pub carrier_ends : (es : List Entry) (i : ℕ) (m : List ℕ) → length es ≤ i → carrier_from (i + 1) (drop i es) m ≡ None
-carrier_ends es i m h = at_drop_all (λ (xs : List Entry). carrier_from (i + 1) xs m) es i h
+-- a listing has as many statements as it counts
+pub listed_size : (l : Listing) → length (listed l.lines l.count) ≡ l.count
+listed_size l = let room = l.room in let few = l.few in listed-length l.lines l.count (omega arith)
 
 -- one line more is looked up
-pub resolved_more : (R : Entry → Entry) (ls out : List Line) (n i : ℕ) (x d : Line) → i < n → n ≤ length ls → i < length out → listed out i ≡ map R (take i (listed ls n)) → entry x ≡ R (entry (get_or ls i d)) → listed (set out i x) (i + 1) ≡ map R (take (i + 1) (listed ls n))
-resolved_more R ls out n i x d h g o inv e =
-    let here = listed_here ls n i d h g in
-    let l : i < length (listed ls n) = omega (arith, listed-length ls n g) in
-    let more = map_more R (listed ls n) i (entry (get_or ls i d)) l in
-    let added = listed_more out i x o in
-    cc
-
--- all lines are looked up
-pub resolved_all : (R : Entry → Entry) (ls out : List Line) (n i : ℕ) → n ≤ length ls → i ≤ n → n ≤ i → listed out i ≡ map R (take i (listed ls n)) → listed out n ≡ map R (listed ls n)
-resolved_all R ls out n i g h k inv =
-    let same : i ≡ n = omega arith in
-    let all = take_all n (listed ls n) (omega (arith, listed-length ls n g)) in
-    cc
+pub resolve_more : (R : Entry → Entry) (xs ys : List Line) (i : ℕ) (x y : Line) → i < length ys → entry y ≡ R (entry (get_or ys i x)) → map entry (take i ys) ≡ map R (map entry (take i xs)) → drop i ys ≡ drop i xs → (map entry (take (i + 1) (set ys i y)) ≡ map R (map entry (take (i + 1) xs))) × (drop (i + 1) (set ys i y) ≡ drop (i + 1) xs)
+resolve_more R xs ys i x y h f done left =
+    let long : i < length xs = omega (arith, ap length left, length-drop i xs, length-drop i ys) in
+    let new_front = ap (map entry) (take_more_set ys i y h) ∙ map_push entry (take i ys) y in
+    let old_front = ap (λ (l : List Line). map R (map entry l)) (take_more xs i x long) in
+    let pushed = map_push entry (take i xs) (get_or xs i x) in
+    let looked_up = map_push R (map entry (take i xs)) (entry (get_or xs i x)) in
+    let behind = drop-set-lt (i + 1) ys i y (omega arith) in
+    let at_new = at_drop_more (λ (l : List Line). l) ys i x h in
+    let at_old = at_drop_more (λ (l : List Line). l) xs i x long in
+    (cc, cc)

@@ -41,18 +41,13 @@ destination_ranged : (d : Destination) → InRange (destination_operand d)
 destination_ranged (destination.Span s) = s.free
 destination_ranged (destination.Data d) = d.within
 
-resettable_ranged : (r : Resettable) → InRange (resettable_operand r)
-resettable_ranged (resettable.Bit b) = (b.free, b.weighted)
-resettable_ranged (resettable.Timer t) = t.few
-resettable_ranged (resettable.Counter z) = z.few
-
 statement_ranged : (s : Statement) → InRange (operand_of s)
 statement_ranged (Combine c q) = query_ranged q
 statement_ranged OrBefore = tt
 statement_ranged (Open b) = tt
 statement_ranged Close = tt
 statement_ranged (Set b) = (b.free, b.weighted)
-statement_ranged (Reset x) = resettable_ranged x
+statement_ranged (Reset x) = query_ranged x
 statement_ranged (Assign b) = (b.free, b.weighted)
 statement_ranged (Load s) = source_ranged s
 statement_ranged (LoadCoded s) = coded_ranged s

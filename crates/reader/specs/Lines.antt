@@ -1,5 +1,5 @@
 -- The lines of a text, and what stands in a line: its code, its colon, its mark. It assumes nothing.
-use Rattle.std.specs.Prelude.{ℕ, ◌+◌, Bool, cond, ◌&&◌, List, [], ◌∷◌, length, take, Some, None, Ok, Err, Option, Result, ◌==◌, nat_lt}
+use Rattle.std.specs.Prelude.{ℕ, ◌+◌, Bool, cond, ◌&&◌, List, length, take, Some, None, Ok, Err, Option, Result, nat_lt}
 use Rattle.std.specs.List.{prefix_len}
 pub use Rattle.lines.specs.Lines.{lines_of, prepend}
 use Rattle.awl.specs.Alphabet.{in_class}

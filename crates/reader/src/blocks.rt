@@ -32,17 +32,6 @@ pub fn read(text: &[u8]) -> Result<Block, BlockFault>
     read_block(text)
 }
 
-impl Block {
-    // The statement of a number from 1, or none.
-    pub fn line(&self, number: u8) -> Option<Line>
-        ensures test { is_some result ≡ (nat_le 1 number && nat_le number self.now.count) }
-        ensures value { IfSome result (λ l. slice_index_or (listed self.now.lines self.now.count) (number - 1) (entry l) ≡ entry l) }
-    {
-        let index = usize::from(number).checked_sub(1)?;
-        self.lines().get(index).copied()
-    }
-}
-
 // The line that begins at an index of the text, without the byte 10 that ends it.
 pub fn line_at(text: &[u8], at: usize) -> &[u8]
     ensures value { result.now ≡ first_line (drop at text.now) }
@@ -83,6 +72,7 @@ fn check_mark(listing: &Listing, number: usize, mark: Option<PlacedMark>) -> Res
 }
 
 // The statement of a line that holds one.
+#[tactic(auto, unfolding(crate::specs::Reading::entry_of))]
 fn entry_of(listing: &Listing, number: usize, line: &[u8]) -> Result<Line, BlockFault>
     ensures value { map_ok entry result ≡ entry_of (listed listing.now.lines listing.now.count) number line.now }
 {
@@ -98,6 +88,7 @@ fn entry_of(listing: &Listing, number: usize, line: &[u8]) -> Result<Line, Block
 }
 
 // The statement of a line, or none. A 256th is refused before its line is looked at.
+#[tactic(auto, using(crate::proofs::Carrying::listed_size), unfolding(crate::specs::Reading::line_entry))]
 fn line_entry(listing: &Listing, number: usize, line: &[u8]) -> Result<Option<Line>, BlockFault>
     ensures value { map_ok (option_map entry) result ≡ line_entry (listed listing.now.lines listing.now.count) number line.now }
     ensures room { IfOk result (λ o. OnSome o (listing.now.count < 255)) }
@@ -204,7 +195,8 @@ impl Listing {
     fn carrier(&self, mark: &Mark) -> Option<u8>
         ensures value { result ≡ carrier (listed self.now.lines self.now.count) (mark_text mark.now) }
     {
-        for (i, line) in self.lines().iter().enumerate() {
+        let lines = self.lines();
+        for (i, line) in lines.iter().enumerate() {
             if line.carries(mark) {
                 return Some((i + 1) as u8);
             }
@@ -253,6 +245,7 @@ fn check_bytes(number: usize, line: &[u8]) -> Result<(), LineFault>
 }
 
 // The mark before the colon, if any.
+#[tactic(auto, unfolding(crate::specs::Lines::mark_before))]
 fn mark_before(before: &[u8], end: LineEnd) -> Result<Option<PlacedMark>, WordFault>
     ensures value { map_ok (option_map placed_seen) result ≡ mark_before end before.now }
 {
@@ -271,6 +264,7 @@ fn mark_before(before: &[u8], end: LineEnd) -> Result<Option<PlacedMark>, WordFa
 }
 
 // The line's mark, and the column behind its colon.
+#[tactic(auto, unfolding(crate::specs::Lines::head_of))]
 fn head_of(number: usize, line: &[u8]) -> Result<Head, LineFault>
     ensures value { map_ok head_seen result ≡ head_of number line.now }
 {

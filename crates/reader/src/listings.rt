@@ -35,18 +35,37 @@ pub struct Block {
 
 impl Listing {
     // The lines that are read.
-    pub fn lines(&self) -> &[Line]
+    pub(crate) fn lines(&self) -> &[Line]
         ensures value { result.now ≡ take self.now.count self.now.lines }
     {
-        &self.lines[..self.count]
+        first_lines(&self.lines, self.count)
     }
 }
 
 impl Block {
+    ghost use Rattle.std.specs.Prelude.{◌-◌, ◌&&◌, is_some, IfSome, nat_le, slice_index_or};
+    ghost use Rattle.reader.specs.Listed.{entry, listed};
+
     // The lines of its statements.
     pub fn lines(&self) -> &[Line]
         ensures value { result.now ≡ take self.now.count self.now.lines }
     {
-        &self.lines[..self.count]
+        first_lines(&self.lines, self.count)
     }
+
+    // The statement of a number from 1, or none.
+    pub fn line(&self, number: u8) -> Option<Line>
+        ensures test { is_some result ≡ (nat_le 1 number && nat_le number self.now.count) }
+        ensures value { IfSome result (λ l. slice_index_or (listed self.now.lines self.now.count) (number - 1) (entry l) ≡ entry l) }
+    {
+        let index = usize::from(number).checked_sub(1)?;
+        self.lines().get(index).copied()
+    }
+}
+
+fn first_lines(lines: &[Line; 255], count: usize) -> &[Line]
+    requires { count ≤ length lines.now }
+    ensures value { result.now ≡ take count lines.now }
+{
+    &lines[..count]
 }
