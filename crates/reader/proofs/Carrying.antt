@@ -6,7 +6,7 @@ use Rattle.reader.specs.Reading.{Entry}
 use Rattle.reader.specs.declared.listings.Line.{Line}
 use Rattle.reader.specs.declared.listings.Listing.{Listing}
 
-listed-length : (ls : List Line) (n : ℕ) → n ≤ length ls → length (listed ls n) ≡ n
+pub listed-length : (ls : List Line) (n : ℕ) → n ≤ length ls → length (listed ls n) ≡ n
 listed-length ls n h = length-map (take n ls) entry ∙ length-take-le n ls h
 
 -- a listing has as many statements as it counts

@@ -5,9 +5,8 @@
 ghost use Rattle.std.specs.Prelude.{◌≡◌, ◌+◌, ◌-◌, ◌≤◌, length, if◌then◌else◌, slice_set};
 ghost use Rattle.stack.specs.Held.{held, clamped, room, pushed, written, Popped, Topmost};
 
-mod slots;
-
-// The first `depth` slots are the stack, oldest first; what lies past them is not the stack's.
+// The first `depth` slots are the stack, oldest first; what lies past them is not the stack's. A slice with a depth beside
+// it, since the slots are the lender's: nothing is allocated.
 #[derive(Drop)]
 pub struct Stack<'a, T> {
     slots: &'a mut [T],
@@ -40,6 +39,7 @@ impl<'a, T: Copy> Stack<'a, T> {
     }
 
     // One more on top. Full: says no, and nothing changed. No slot but the pushed one changes.
+    #[tactic(auto, using(std::proofs::lemmas::List::take_more_set))]
     pub fn push(&mut self, x: T) -> bool
         ensures value { result ≡ room self.old.slots.now self.old.depth }
         ensures after { held self.new.slots.now self.new.depth ≡ pushed result (held self.old.slots.now self.old.depth) x }
@@ -47,17 +47,24 @@ impl<'a, T: Copy> Stack<'a, T> {
         ensures slots_after { self.new.slots.now ≡ written result self.old.slots.now self.old.depth x }
         ensures same { self.new.slots.ghost_name ≡ self.old.slots.ghost_name }
     {
-        self.put(x)
+        if self.depth >= self.slots.len() {
+            return false;
+        }
+        self.slots[self.depth] = x;
+        self.depth += 1;
+        true
     }
 
     // The newest, taken off. Empty: none, and nothing changed. No slot changes.
+    #[tactic(auto, using(std::proofs::lemmas::List::take_more))]
     pub fn pop(&mut self) -> Option<T>
         ensures value { Topmost result self.old.slots.now self.old.depth }
         ensures after { Popped result (held self.old.slots.now self.old.depth) (held self.new.slots.now self.new.depth) }
         ensures depth_after { self.new.depth ≡ self.old.depth - 1 }
         ensures same { (self.new.slots.now ≡ self.old.slots.now) × (self.new.slots.ghost_name ≡ self.old.slots.ghost_name) }
     {
-        self.take()
+        self.depth = self.depth.checked_sub(1)?;
+        Some(self.slots[self.depth])
     }
 }
 
