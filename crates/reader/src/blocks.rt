@@ -12,16 +12,14 @@ ghost use Rattle.reader.specs.Marked.{placed_seen, head_seen};
 ghost use Rattle.reader.specs.Reading.{carries_mark, carrier, fresh_mark, entry_of, line_entry, lines_read, resolved, reading};
 ghost use Rattle.reader.specs.declared.faults.LineFault.TheVariants.{Word as WordOf};
 
-use crate::faults::{BlockFault, LineFault};
-use crate::heads::{Head, PlacedMark};
+use crate::faults::BlockFault;
+use crate::heads::PlacedMark;
 use crate::listings::{Block, Line, Listing};
+use crate::typed_lines::TypedLine;
 use awl::bytes::{ByteClass, tail};
 use awl::marks::Mark;
 use awl::statements::{Statement, Target};
-use lexer::faults::WordFault;
-use lexer::words::{LineEnd, Word, word_from, words_from};
 use lines::Lines;
-use parser::statements::statement_from;
 
 // The statements of the text, each jump with the statement that carries its mark, or the first fault.
 pub fn read(text: &[u8]) -> Result<Block, BlockFault>
@@ -53,55 +51,6 @@ fn read_block(text: &[u8]) -> Result<Block, BlockFault>
         lines,
         count: listing.count,
     })
-}
-
-// Refuses a mark that an earlier statement carries.
-fn check_mark(listing: &Listing, number: usize, mark: Option<PlacedMark>) -> Result<(), BlockFault>
-    ensures value { result ≡ fresh_mark (listed listing.now.lines listing.now.count) number (option_map placed_seen mark) }
-{
-    let Some(placed) = mark else {
-        return Ok(());
-    };
-    if listing.carrier(&placed.mark).is_some() {
-        return Err(BlockFault::MarkTwice {
-            line: number,
-            column: placed.column,
-        });
-    }
-    Ok(())
-}
-
-// The statement of a line that holds one.
-#[tactic(auto, unfolding(crate::specs::Reading::entry_of))]
-fn entry_of(listing: &Listing, number: usize, line: &[u8]) -> Result<Line, BlockFault>
-    ensures value { map_ok entry result ≡ entry_of (listed listing.now.lines listing.now.count) number line.now }
-{
-    check_bytes(number, line)?;
-    let head = head_of(number, line)?;
-    check_mark(listing, number, head.mark)?;
-    let statement = statement_of(number, line, head.behind)?;
-    Ok(Line {
-        number,
-        mark: head.mark.map(|placed| placed.mark),
-        statement,
-    })
-}
-
-// The statement of a line, or none. A 256th is refused before its line is looked at.
-#[tactic(auto, using(crate::proofs::Carrying::listed_size), unfolding(crate::specs::Reading::line_entry))]
-fn line_entry(listing: &Listing, number: usize, line: &[u8]) -> Result<Option<Line>, BlockFault>
-    ensures value { map_ok (option_map entry) result ≡ line_entry (listed listing.now.lines listing.now.count) number line.now }
-    ensures room { IfOk result (λ o. OnSome o (listing.now.count < 255)) }
-{
-    if !holds_statement(line) {
-        check_bytes(number, line)?;
-        return Ok(None);
-    }
-    if listing.count == 255 {
-        return Err(BlockFault::Full { line: number });
-    }
-    let entry = entry_of(listing, number, line)?;
-    Ok(Some(entry))
 }
 
 // The line with its jump looked up among the listed statements.
@@ -147,8 +96,12 @@ fn read_lines(text: &[u8]) -> Result<Listing, BlockFault>
     ensures value { map_ok (λ l. listed l.lines l.count) result ≡ lines_read [] 1 (lines_of text.now) }
 {
     let mut listing = Listing::new();
-    for (index, line) in Lines::of(text).enumerate() {
-        if let Some(entry) = line_entry(&listing, index + 1, line)? {
+    for (index, bytes) in Lines::of(text).enumerate() {
+        let line = TypedLine {
+            number: index + 1,
+            bytes,
+        };
+        if let Some(entry) = listing.entry(line)? {
             listing.add(entry);
         }
     }
@@ -178,6 +131,55 @@ impl Listing {
             lines: [blank; 255],
             count: 0,
         }
+    }
+
+    // The statement of a line, or none. A 256th is refused before its line is looked at.
+    #[tactic(auto, using(crate::proofs::Carrying::listed_size), unfolding(crate::specs::Reading::line_entry))]
+    fn entry(&self, line: TypedLine) -> Result<Option<Line>, BlockFault>
+        ensures value { map_ok (option_map entry) result ≡ line_entry (listed self.now.lines self.now.count) line.entry.number line.entry.bytes.now }
+        ensures room { IfOk result (λ o. OnSome o (self.now.count < 255)) }
+    {
+        if !holds_statement(line.bytes) {
+            line.check_bytes()?;
+            return Ok(None);
+        }
+        if self.count == 255 {
+            return Err(BlockFault::Full { line: line.number });
+        }
+        let entry = self.held_entry(line)?;
+        Ok(Some(entry))
+    }
+
+    // The statement of a line that holds one.
+    #[tactic(auto, unfolding(crate::specs::Reading::entry_of))]
+    fn held_entry(&self, line: TypedLine) -> Result<Line, BlockFault>
+        ensures value { map_ok entry result ≡ entry_of (listed self.now.lines self.now.count) line.entry.number line.entry.bytes.now }
+    {
+        line.check_bytes()?;
+        let head = line.head()?;
+        self.check_mark(line.number, head.mark)?;
+        let statement = line.statement(head.behind)?;
+        Ok(Line {
+            number: line.number,
+            mark: head.mark.map(|placed| placed.mark),
+            statement,
+        })
+    }
+
+    // Refuses a mark that an earlier statement carries.
+    fn check_mark(&self, number: usize, mark: Option<PlacedMark>) -> Result<(), BlockFault>
+        ensures value { result ≡ fresh_mark (listed self.now.lines self.now.count) number (option_map placed_seen mark) }
+    {
+        let Some(placed) = mark else {
+            return Ok(());
+        };
+        if self.carrier(&placed.mark).is_some() {
+            return Err(BlockFault::MarkTwice {
+                line: number,
+                column: placed.column,
+            });
+        }
+        Ok(())
     }
 
     // One statement more; nothing changes where 255 are listed.
@@ -218,75 +220,4 @@ pub fn holds_statement(line: &[u8]) -> bool
 {
     let code = code_of(line);
     ByteClass::Space.front(code) < code.len()
-}
-
-// The line's number and the column behind its last byte.
-fn end_of(number: usize, line: &[u8]) -> LineEnd
-    ensures value { result ≡ line_end number line.now }
-{
-    LineEnd {
-        line: number,
-        column: line.len() + 1,
-    }
-}
-
-// Refuses a line with a byte other than 32 to 126.
-fn check_bytes(number: usize, line: &[u8]) -> Result<(), LineFault>
-    ensures value { result ≡ sound number line.now tt }
-{
-    let good = ByteClass::Printable.front(line);
-    if good < line.len() {
-        return Err(LineFault::Byte {
-            line: number,
-            column: good + 1,
-        });
-    }
-    Ok(())
-}
-
-// The mark before the colon, if any.
-#[tactic(auto, unfolding(crate::specs::Lines::mark_before))]
-fn mark_before(before: &[u8], end: LineEnd) -> Result<Option<PlacedMark>, WordFault>
-    ensures value { map_ok (option_map placed_seen) result ≡ mark_before end before.now }
-{
-    let first = word_from(before, 1);
-    let second = word_from(before, first.column + first.bytes.len());
-    if first.is_missing() {
-        return Ok(None);
-    }
-    match Mark::new(first.bytes) {
-        Some(mark) if second.is_missing() => Ok(Some(PlacedMark {
-            mark,
-            column: first.column,
-        })),
-        _ => Err(Word::Mark(first).fault(end)),
-    }
-}
-
-// The line's mark, and the column behind its colon.
-#[tactic(auto, unfolding(crate::specs::Lines::head_of))]
-fn head_of(number: usize, line: &[u8]) -> Result<Head, LineFault>
-    ensures value { map_ok head_seen result ≡ head_of number line.now }
-{
-    let code = code_of(line);
-    let colon = ByteClass::BeforeColon.front(code);
-    if colon == code.len() {
-        return Err(LineFault::Colon {
-            line: number,
-            column: line.len() + 1,
-        });
-    }
-    let mark = mark_before(&code[..colon], end_of(number, line))?;
-    Ok(Head {
-        mark,
-        behind: colon + 2,
-    })
-}
-
-// The statement that the words from a column on make, its fault as the line's.
-fn statement_of(number: usize, line: &[u8], behind: usize) -> Result<Statement, LineFault>
-    ensures value { map_ok written result ≡ map_err WordOf (statement_of (line_end number line.now) (words_from (code_of line.now) behind)) }
-{
-    let words = words_from(code_of(line), behind);
-    Ok(statement_from(words, end_of(number, line))?)
 }

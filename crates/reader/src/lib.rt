@@ -6,3 +6,4 @@ pub mod blocks;
 pub mod faults;
 pub mod heads;
 pub mod listings;
+mod typed_lines;
