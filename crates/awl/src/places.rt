@@ -1,6 +1,6 @@
 // The places that an operand may name. A place out of its range cannot be made.
 // It knows nothing of what stands in a place.
-ghost use Rattle.std.specs.Prelude.{◌≡◌, ℕ, ◌+◌, ◌<◌, ◌≤◌, ◌&&◌, is_some, IfSome, nat_le};
+ghost use Rattle.std.specs.Prelude.{◌≡◌, ◌+◌, ◌≤◌, ◌&&◌, is_some, IfSome, nat_le};
 ghost use Rattle.awl.specs.Reach.{free_bytes, bytes_of, words_of};
 
 #[derive(Clone, Copy)]

@@ -1,6 +1,6 @@
 // What stands behind the letters of an operand: numbers, bits and marks, read into places that are in their range.
 // It knows nothing of operations.
-ghost use Rattle.std.specs.Prelude.{◌≡◌, ℤ};
+ghost use Rattle.std.specs.Prelude.{◌≡◌};
 ghost use Rattle.std.specs.Option.{option_map};
 ghost use Rattle.awl.specs.Written.{mark, timer, counter, mark_text, bit_operand, span_operand, data_operand};
 ghost use Rattle.lexer.specs.Numbers.{number_of, negative_of, positive_of, double_of};

@@ -1,5 +1,5 @@
 // The words of a line, as parts of it with their places. It knows nothing of what a word means.
-ghost use Rattle.std.specs.Prelude.{◌≡◌, ℕ, ◌+◌, ◌^◌, ◌<◌, ◌≤◌, max, length};
+ghost use Rattle.std.specs.Prelude.{◌≡◌, ◌+◌, ◌^◌, ◌<◌, ◌≤◌, max, length};
 ghost use Rattle.lexer.specs.Words.{kind_of, seen, seen_word, seen_words, word_in, word_from, words_from, is_missing, fault_at};
 
 use crate::faults::{Flaw, WordFault, WordKind};

@@ -1,11 +1,11 @@
 // The statement that the words behind a colon make: one function for each shape of an operand.
 // It knows nothing of lines and marks.
-ghost use Rattle.std.specs.Prelude.{◌≡◌, Option};
+ghost use Rattle.std.specs.Prelude.{◌≡◌};
 ghost use Rattle.awl.specs.Written.{timer, counter, mark, data_block, mark_text, bit_operand, query_operand, source_operand, coded_operand, destination_operand, call_jump};
 ghost use Rattle.parser.specs.Answers.{map_ok, and_then};
 ghost use Rattle.lexer.specs.Letters.{letters_of};
 ghost use Rattle.lexer.specs.Words.{seen, seen_words, fault_at};
-ghost use Rattle.parser.specs.Statements.{expect, behind, operand_among, is_query, is_bit, is_source, is_coded, is_destination, is_timer, is_counter, is_marked, is_data_block, is_goal, complete, plain, written, statement_with, statement_of};
+ghost use Rattle.parser.specs.Statements.{expect, behind, operand_among, is_query, is_bit, is_source, is_coded, is_destination, is_timer, is_counter, is_data_block, is_goal, complete, plain, written, statement_with, statement_of};
 ghost use Rattle.lexer.specs.declared.faults.WordKind.TheVariants as kind;
 ghost use Rattle.lexer.specs.declared.letters.Letters.TheVariants as letters;
 ghost use Rattle.awl.specs.declared.statements.Operation.TheVariants as operations;

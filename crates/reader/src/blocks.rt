@@ -1,16 +1,13 @@
 // The text of a block, read line by line. It knows nothing of where blocks are kept.
-ghost use Rattle.std.specs.Prelude.{◌≡◌, ℕ, ◌+◌, ◌-◌, ◌<◌, ◌≤◌, ◌&&◌, [], ◌∷◌, ◌++◌, map, length, drop, is_some, IfSome, IfOk, if◌then◌else◌, OnSome, nat_le, nat_lt, slice_index_or};
+ghost use Rattle.std.specs.Prelude.{◌≡◌, ◌+◌, ◌<◌, [], ◌∷◌, ◌++◌, map, length, drop, IfOk, if◌then◌else◌, OnSome, nat_lt};
 ghost use Rattle.std.specs.Option.{option_map};
 ghost use Rattle.awl.specs.Written.{mark_text};
-ghost use Rattle.lexer.specs.Words.{words_from};
-ghost use Rattle.parser.specs.Answers.{map_ok, map_err};
-ghost use Rattle.parser.specs.Statements.{written, statement_of};
+ghost use Rattle.parser.specs.Answers.{map_ok};
 ghost use Rattle.reader.specs.Laws.{Lawful, IdleLinesOnlyMove};
-ghost use Rattle.reader.specs.Lines.{lines_of, first_line, code_of, holds, line_end, sound, mark_before, head_of};
+ghost use Rattle.reader.specs.Lines.{lines_of, first_line, code_of, holds};
 ghost use Rattle.reader.specs.Listed.{entry, listed};
-ghost use Rattle.reader.specs.Marked.{placed_seen, head_seen};
+ghost use Rattle.reader.specs.Marked.{placed_seen};
 ghost use Rattle.reader.specs.Reading.{carries_mark, carrier, fresh_mark, entry_of, line_entry, lines_read, resolved, reading};
-ghost use Rattle.reader.specs.declared.faults.LineFault.TheVariants.{Word as WordOf};
 
 use crate::faults::BlockFault;
 use crate::heads::PlacedMark;

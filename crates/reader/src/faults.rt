@@ -1,6 +1,6 @@
 // What can be wrong with a text, and where: a word's fault stands whole in the line's, and that in the block's.
 // It knows nothing of how a text is read.
-ghost use Rattle.std.specs.Prelude.{◌≡◌, ℕ};
+ghost use Rattle.std.specs.Prelude.{◌≡◌};
 ghost use Rattle.reader.specs.Faults.{line_refusal, line_of_line, column_of_line, block_refusal, line_of_block, column_of_block};
 ghost use Rattle.reader.specs.declared.faults.LineFault.TheVariants.{Word};
 ghost use Rattle.reader.specs.declared.faults.BlockFault.TheVariants.{Line};

@@ -1,5 +1,5 @@
 // The statements of a block as they are read, at most 255. It knows nothing of text.
-ghost use Rattle.std.specs.Prelude.{◌≡◌, ℕ, ◌≤◌, length, take};
+ghost use Rattle.std.specs.Prelude.{◌≡◌, ◌≤◌, length, take};
 
 use awl::marks::Mark;
 use awl::statements::Statement;
