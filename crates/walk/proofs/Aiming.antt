@@ -1,25 +1,26 @@
 -- Whether a block is fit to be walked.
-use Rattle.std.proofs.Common.{◌≡◌, ℕ, ◌+◌, ◌<◌, ◌≤◌, true, false, leb, ◌⊎◌, List, length, Some, Decides, sym, refl, ◌∙◌, subst, ⊎_elim, arith}
-use Rattle.std.proofs.lemmas.Bool.{leb-true, le-leb, both_ways, cases_lt}
+use Rattle.std.proofs.Common.{◌≡◌, ℕ, ◌+◌, ◌-◌, ◌<◌, ◌≤◌, Bool, true, false, ◌⊎◌, List, length, get_or, Decides, sym, refl, ap, ◌∙◌, subst, ⊎_elim, arith}
+use Rattle.std.proofs.lemmas.Bool.{both_ways, cases_lt}
+use Rattle.parser.specs.Statements.{written}
 use Rattle.awl.specs.declared.statements.Statement.{Statement}
-use Rattle.walk.specs.Flows.{flows_of}
-use Rattle.walk.specs.Walk.{flow_at, jumps_to, Aimed, Fit}
-use Rattle.walk.proofs.Flowing.{length-flows}
-
-some_same : {x y : ℕ} → Some x ≡ Some y → x ≡ y
-some_same e = cc
+use Rattle.walk.specs.Flows.{flow, flows_of}
+use Rattle.walk.specs.Walk.{flow_at, AimedInto, Aimed, Fit}
+use Rattle.walk.specs.declared.flows.Flow.{Flow}
+use Rattle.walk.proofs.Flowing.{length-flows, flow_read}
 
 module _ (xs : List Statement) where
-  -- a jump is aimed where its target is one of the block's statements
-  pub aimed_test : (s t : ℕ) → jumps_to (flow_at (flows_of xs) s) ≡ Some t → 1 ≤ t → Decides (leb t (length xs)) (Aimed (flows_of xs) s)
-  aimed_test s t goes low = (
-    λ e u is.
-        let same : u ≡ t = some_same (sym is ∙ goes) in
-        let high = leb-true t (length xs) e in
-        let long = length-flows xs in
-        (omega arith, omega arith),
-    λ aimed. let h = aimed t goes in let high = h.1 in let long = length-flows xs in le-leb t (length xs) (omega arith),
-  )
+  -- the flow of the statement at an index
+  flow_here : (i : ℕ) (y : Statement) → i < length xs → y ≡ get_or xs i y → flow_at (flows_of xs) (i + 1) ≡ flow (written y)
+  flow_here i y inside is =
+      let back : i + 1 - 1 ≡ i = omega arith in
+      flow_read xs (i + 1) y (omega arith) (omega arith) ∙ (ap (λ (j : ℕ). flow (written (get_or xs j y))) back ∙ ap (λ (z : Statement). flow (written z)) (sym is))
+
+  -- a statement's jump is aimed where it goes to one of so many as the block has
+  pub aimed_here : (i : ℕ) (y : Statement) (x : Flow) (b : Bool) → i < length xs → y ≡ get_or xs i y → x ≡ flow (written y) →
+      Decides b (AimedInto x (length xs)) → Decides b (Aimed (flows_of xs) (i + 1))
+  aimed_here i y x b inside is e d =
+      subst (λ (n : ℕ). Decides b (AimedInto (flow_at (flows_of xs) (i + 1)) n)) (sym (length-flows xs))
+      (subst (λ (z : Flow). Decides b (AimedInto z (length xs))) (e ∙ sym (flow_here i y inside is)) d)
 
   pub unfit_size : (length xs ≡ 0) ⊎ (255 < length xs) → Decides false (Fit (flows_of xs))
   unfit_size size = (

@@ -11,7 +11,7 @@ use Rattle.walk.specs.Walk.{Goes, OnWalk, start, on, Fit}
 use Rattle.walk.proofs.Ways.{walk_in, goes_found, on_goes, jump_goes}
 
 -- one mark more
-unmarked-set : (seen : List Bool) (i : ℕ) → i < length seen → get_or seen i false ≡ false → unmarked (set seen i true) + 1 ≡ unmarked seen
+pub unmarked-set : (seen : List Bool) (i : ℕ) → i < length seen → get_or seen i false ≡ false → unmarked (set seen i true) + 1 ≡ unmarked seen
 unfolding unmarked
 unmarked-set seen i h e =
     let f : Bool → ℕ = λ b. cond (not b) 1 0 in
@@ -51,7 +51,7 @@ none_marked i m = ⊎_elim
     (λ (l : 1530 ≤ i). both_ways _ (get_or_past (replicate 1530 false) i false (omega (arith, length-replicate 1530 false))) m)
     (cases_lt i 1530)
 
-none_room : 0 + unmarked (replicate 1530 false) ≤ 1530
+pub none_room : 0 + unmarked (replicate 1530 false) ≤ 1530
 unfolding unmarked
 none_room = omega (arith, count_by-le-length not (replicate 1530 false), length-replicate 1530 false)
 

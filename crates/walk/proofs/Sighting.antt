@@ -1,6 +1,6 @@
 -- A statement's sight, from the marks of its places.
-use Rattle.std.proofs.Common.{◌≡◌, ℕ, ◌+◌, ◌-◌, ◌<◌, ◌≤◌, Bool, true, ◌⊎◌, List, length, get_or, set, Decides, Option, sym, ap, ◌∙◌, subst, inl, inr, ⊎_elim, arith}
-use Rattle.std.proofs.lemmas.List.{get_or-set_same, get_or-set_other}
+use Rattle.std.proofs.Common.{◌≡◌, ℕ, ◌+◌, ◌-◌, ◌<◌, ◌≤◌, Bool, true, ◌⊎◌, List, ◌++◌, length, get_or, set, Decides, Option, sym, ap, ◌∙◌, subst, inl, inr, ⊎_elim, arith}
+use Rattle.std.proofs.lemmas.List.{get_or-set_same, get_or-set_other, get_or_append_left}
 use Rattle.std.proofs.lemmas.Bool.{cases_lt, cases_eq}
 use Rattle.walk.specs.declared.faults.Fault.{Fault}
 use Rattle.walk.specs.declared.flows.Flow.{Flow}
@@ -66,14 +66,24 @@ module _ (block : List Flow) (s : ℕ) where
   pub marked_walk : (seen : List Bool) (k : ℕ) (b : Bool) → Exact block seen → 1 ≤ s → k < 6 → Decides b (Marked seen s k) → Decides b (OnWalk block s k)
   marked_walk seen k b exact low few d = (λ e. exact.sound s k low few (d.0 e), λ w. d.1 (exact.whole s k w))
 
+-- of the first n statements, those up to i are sighted
+abbrev pub SightedBelow : List Flow → ℕ → List Sight → ℕ → Type 0
+SightedBelow block n sights i = (s : ℕ) → 1 ≤ s → s ≤ i → s ≤ n → Sighted block s (get_or sights (s - 1) unseen)
+
 -- one statement more is sighted
-pub sighted_more : (block : List Flow) (sights : List Sight) (i : ℕ) (x : Sight) → i < length sights → Sighted block (i + 1) x → SightedTo block sights i → SightedTo block (set sights i x) (i + 1)
-sighted_more block sights i x room here before s low high = ⊎_elim
+pub sighted_more : (block : List Flow) (n : ℕ) (sights : List Sight) (i : ℕ) (x : Sight) → i < length sights → Sighted block (i + 1) x → SightedBelow block n sights i → SightedBelow block n (set sights i x) (i + 1)
+sighted_more block n sights i x room here before s low high inside = ⊎_elim
     (λ (e : s ≡ i + 1).
     let at : s - 1 ≡ i = omega arith in
     let is : get_or (set sights i x) (s - 1) unseen ≡ x = ap (λ (j : ℕ). get_or (set sights i x) j unseen) at ∙ get_or-set_same sights i x unseen room in
     subst (λ (y : Sight). Sighted block s y) (sym is) (subst (λ (t : ℕ). Sighted block t x) (sym e) here))
     (λ (ne : s ≡ i + 1 → ⊥).
     let other : s - 1 ≡ i → ⊥ = λ e. ne (omega arith) in
-    subst (λ (y : Sight). Sighted block s y) (sym (get_or-set_other sights i (s - 1) x unseen other)) (before s low (omega arith)))
+    subst (λ (y : Sight). Sighted block s y) (sym (get_or-set_other sights i (s - 1) x unseen other)) (before s low (omega arith) inside))
     (cases_eq s (i + 1))
+
+-- the first n statements are sighted by a table that begins with their sights
+pub sighted_all : (block : List Flow) (n : ℕ) (sights rest : List Sight) (i : ℕ) → length sights ≡ n → n ≤ i → SightedBelow block n sights i → SightedTo block (sights ++ rest) n
+sighted_all block n sights rest i long end all s low high =
+    let inside : s - 1 < length sights = omega arith in
+    rw (get_or_append_left sights rest unseen (s - 1) inside) (all s low (omega arith) high)

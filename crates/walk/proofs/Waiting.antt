@@ -26,6 +26,7 @@ waiting_pop xs d x p h =
 
 -- a push with room, as the stack's contract tells it
 pub record Pushed (xs ys : List Place) (d e : ℕ) (x : Place) (n : ℕ) : Type 0 where
+  pub deep : e ≡ d + 1
   pub waiting : waiting_on ys e ≡ x ∷ waiting_on xs d
   pub size : length ys ≡ length xs
   pub rest : drop n ys ≡ drop n xs
@@ -37,6 +38,7 @@ pushed xs ys d e x r n said deep is l m =
     let e₁ : e ≡ d + 1 = deep ∙ ap (λ b. cond b (d + 1) d) yes in
     let y₁ : ys ≡ set xs d x = is ∙ ap (λ b. cond b (set xs d x) xs) yes in
     record {
+      deep = e₁;
       waiting = rw (y₁, e₁) (waiting_push xs d x room);
       size = ap length y₁ ∙ length-set xs d x;
       rest = ap (drop n) y₁ ∙ drop-set-lt n xs d x l;

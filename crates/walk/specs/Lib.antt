@@ -1,6 +1,7 @@
 pub mod Flows
 pub mod Faults
 pub mod Walk
+pub mod Lesser
 pub mod Places
 pub mod Search
 pub mod Findings

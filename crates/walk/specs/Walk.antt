@@ -129,9 +129,13 @@ pub data OnWalk (block : List Flow) : ℕ → ℕ → Type 0 where
   start : OnWalk block 1 0
   on : {s k t j : ℕ} → OnWalk block s k → Goes block s k t j → OnWalk block t j
 
+-- a jump that finds its mark goes to one of n statements
+abbrev pub AimedInto : Flow → ℕ → Type 0
+AimedInto x n = (t : ℕ) → jumps_to x ≡ Some t → (1 ≤ t) × (t ≤ n)
+
 -- a jump that finds its mark goes to a statement of its block
 abbrev pub Aimed : List Flow → ℕ → Type 0
-Aimed block s = (t : ℕ) → jumps_to (flow_at block s) ≡ Some t → (1 ≤ t) × (t ≤ length block)
+Aimed block s = AimedInto (flow_at block s) (length block)
 
 -- a block as it can be read: 1 to 255 statements, and every jump is aimed
 pub record Fit (block : List Flow) : Type 0 where

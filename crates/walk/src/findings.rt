@@ -1,13 +1,15 @@
 // A block's walk as a value of its own, made of the block alone. It knows nothing of other blocks.
-ghost use Rattle.std.specs.Prelude.{◌≡◌, ℕ, ◌+◌, ◌-◌, ◌<◌, ◌≤◌, length, drop, Decides, MatchOption, slice_index_or};
+ghost use Rattle.std.specs.Prelude.{◌≡◌, ℕ, ◌-◌, ◌<◌, ◌≤◌, length, take, drop, MatchOption, slice_index_or};
 ghost use Rattle.walk.specs.Findings.{Sighted, SightedTo, Found, unseen};
 ghost use Rattle.walk.specs.Flows.{flows_of};
-ghost use Rattle.walk.specs.Search.{Exact, Marked};
-ghost use Rattle.walk.specs.Walk.{Aimed, Fit};
+ghost use Rattle.walk.specs.Search.{Exact};
+ghost use Rattle.walk.specs.Walk.{Fit};
 
 use crate::faults::lower;
+use crate::fits::FitBlock;
 use crate::flows::Flow;
-use crate::places::{Place, fault_at, flow_at, target};
+use crate::marks::Marks;
+use crate::places::Place;
 use crate::search::marks_of;
 use crate::sights::{Finding, Sight};
 use awl::statements::Statement;
@@ -20,21 +22,12 @@ const UNSEEN: Sight = Sight {
     bare: false,
 };
 
-// Whether a place is marked.
-fn is_marked(seen: &[bool; 1530], place: Place) -> bool
-    requires { (1 ≤ place.statement) × ((place.statement ≤ 255) × (place.brackets < 6)) }
-    ensures value { Decides result (Marked seen.now place.statement place.brackets) }
-{
-    seen[(place.statement as usize - 1) * 6 + place.brackets as usize]
-}
-
 // What the marks tell of a statement.
-fn sight_at(block: &[Statement], seen: &[bool; 1530], statement: u8) -> Sight
-    requires fit { Fit (flows_of block.now) }
-    requires exact { Exact (flows_of block.now) seen.now }
+fn sight_at(block: FitBlock, marks: &Marks, statement: u8) -> Sight
+    requires exact { Exact (flows_of block.statements.now) marks.now.marked }
     requires low { 1 ≤ statement }
-    requires high { statement ≤ length block.now }
-    ensures value { Sighted (flows_of block.now) statement result }
+    requires high { statement ≤ length block.statements.now }
+    ensures value { Sighted (flows_of block.entry.statements.now) statement result }
 {
     let mut fault = None;
     let mut walked = false;
@@ -43,9 +36,9 @@ fn sight_at(block: &[Statement], seen: &[bool; 1530], statement: u8) -> Sight
             statement,
             brackets,
         };
-        if is_marked(seen, place) {
+        if marks.has(place) {
             walked = true;
-            fault = lower(fault, fault_at(block, place));
+            fault = lower(fault, block.fault_at(place));
         }
     }
     let entry = Place {
@@ -53,51 +46,25 @@ fn sight_at(block: &[Statement], seen: &[bool; 1530], statement: u8) -> Sight
         brackets: 0,
     };
     Sight {
-        flow: flow_at(block, statement),
+        flow: block.flow_at(statement),
         fault,
         walked,
-        bare: is_marked(seen, entry),
+        bare: marks.has(entry),
     }
 }
 
 // The sights of all statements, by the marks.
-fn sights_of(block: &[Statement], seen: &[bool; 1530]) -> [Sight; 255]
-    requires fit { Fit (flows_of block.now) }
-    requires exact { Exact (flows_of block.now) seen.now }
-    ensures value { SightedTo (flows_of block.now) result (length block.now) }
+fn sights_of(block: FitBlock, marks: &Marks) -> [Sight; 255]
+    requires { Exact (flows_of block.statements.now) marks.now.marked }
+    ensures value { SightedTo (flows_of block.entry.statements.now) result (length block.entry.statements.now) }
     ensures size { length result ≡ 255 }
 {
     let mut sights = [UNSEEN; 255];
-    for i in 0..block.len() {
-        sights[i] = sight_at(block, seen, i as u8 + 1);
+    let told = &mut sights[..block.statements.len()];
+    for (i, sight) in told.iter_mut().enumerate() {
+        *sight = sight_at(block, marks, i as u8 + 1);
     }
     sights
-}
-
-// Whether a statement's jump is aimed.
-fn is_aimed(block: &[Statement], statement: u8) -> bool
-    requires { (1 ≤ statement) × (statement ≤ length block.now) }
-    ensures value { Decides result (Aimed (flows_of block.now) statement) }
-{
-    match target(flow_at(block, statement)) {
-        Some(target) => 1 <= target && target as usize <= block.len(),
-        None => true,
-    }
-}
-
-// Whether a block is one that can be read.
-fn is_fit(block: &[Statement]) -> bool
-    ensures value { Decides result (Fit (flows_of block.now)) }
-{
-    if block.is_empty() || block.len() > 255 {
-        return false;
-    }
-    for i in 0..block.len() {
-        if !is_aimed(block, i as u8 + 1) {
-            return false;
-        }
-    }
-    true
 }
 
 // What the walk of a block finds at each of its statements. None where there are fewer than 1,530 places to work in, or
@@ -106,13 +73,14 @@ pub fn finding_of(block: &[Statement], places: &mut [Place]) -> Option<Finding>
     ensures value { MatchOption result (Fit (flows_of block.now) → 1530 ≤ length places.old → ⊥) (λ f. Found (flows_of block.now) f.sights f.count) }
     ensures rest { drop 1530 places.new ≡ drop 1530 places.old }
 {
-    if places.len() < 1530 || !is_fit(block) {
+    if places.len() < 1530 {
         return None;
     }
-    let seen = marks_of(block, places);
+    let block = FitBlock::of(block)?;
+    let marks = marks_of(block, places);
     Some(Finding {
-        sights: sights_of(block, &seen),
-        count: block.len(),
+        sights: sights_of(block, &marks),
+        count: block.statements.len(),
     })
 }
 
@@ -125,6 +93,13 @@ impl Finding {
             sights: [UNSEEN; 255],
             count: 0,
         }
+    }
+
+    // What was found, statement by statement.
+    pub fn sights(&self) -> &[Sight]
+        ensures value { result.now ≡ take self.now.count self.now.sights }
+    {
+        &self.sights[..self.count]
     }
 
     // What was found at a statement, from 1.

@@ -4,7 +4,10 @@
 
 pub mod faults;
 pub mod findings;
+mod fits;
 pub mod flows;
+pub mod lesser;
+mod marks;
 pub mod places;
 mod search;
 pub mod sights;

@@ -13,7 +13,8 @@ pub struct Sight {
     pub bare: bool, // the walk comes to it with no bracket open, so that a call enters its block
 }
 
-// What the walk found in a block: the first `count` of the sights, one a statement.
+// What the walk found in a block: the first `count` of the sights, one a statement. An array with its count, since nothing
+// is allocated here.
 #[derive(Clone, Copy)]
 pub struct Finding {
     pub sights: [Sight; 255],

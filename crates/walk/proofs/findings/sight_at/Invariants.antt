@@ -6,5 +6,5 @@ use Rattle.walk.proofs.findings.sight_at.Given as goal
 
 abbrev pub invariant-loop-brackets : goal.invariant-loop-brackets
 invariant-loop-brackets l =
-    Lowest l.fault (MeetsBelow (flows_of l.block) l.statement l.brackets)
-    × Decides l.walked (ComesBelow (flows_of l.block) l.statement l.brackets)
+    Lowest l.fault (MeetsBelow (flows_of l.block.statements.now) l.statement l.brackets)
+    × Decides l.walked (ComesBelow (flows_of l.block.statements.now) l.statement l.brackets)

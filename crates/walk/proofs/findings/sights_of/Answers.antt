@@ -1,28 +1,25 @@
-use Rattle.std.proofs.Common.{◌≡◌, ℕ, length, refl, ◌∙◌, subst, arith}
-use Rattle.std.proofs.lemmas.List.{length-set}
-use Rattle.walk.specs.Findings.{SightedTo}
-use Rattle.walk.specs.Flows.{flows_of}
+use Rattle.std.proofs.Common.{◌≡◌, length, sym, ◌∙◌, arith}
+use Rattle.std.proofs.lemmas.List.{length-take-le}
 use Rattle.walk.proofs.Flowing.{length-flows}
-use Rattle.walk.proofs.Sighting.{sighted_more}
+use Rattle.walk.proofs.Sighting.{sighted_more, sighted_all}
 use Rattle.walk.proofs.findings.sights_of.Goals as goal
 
-pub loop-i-init : goal.loop-i-init
-loop-i-init c = let few = c.requires.fit.few in let long = length-flows c.args.block.now in (λ s low high. absurd (omega arith), refl, omega arith)
+pub slice_bounds-sights-end : goal.slice_bounds-sights-end
+slice_bounds-sights-end c = let few = c.args.block.fit.few in let long = length-flows c.args.block.statements.now in omega arith
+
+pub slice_bounds-told-end : goal.slice_bounds-told-end
+slice_bounds-told-end c = let few = c.args.block.fit.few in let long = length-flows c.args.block.statements.now in sym (length-take-le _ _ (omega arith))
 
 pub loop-i-preserved : goal.loop-i-preserved
 loop-i-preserved c =
-    let t = c.loop-i-test.true in
-    let room = c.loop-i.invariant.1 in
-    let few = c.loop-i.invariant.2 in (
-      sighted_more (flows_of c.args.block.now) c.loop-i.sights c.loop-i.i _ (omega arith) c.sight_at.ensures.value c.loop-i.invariant.0,
-      length-set _ _ _ ∙ room,
-      few,
-    )
+    let few = c.args.block.fit.few in
+    let flows = length-flows c.args.block.statements.now in
+    let long : length c.loop-i.told ≡ length c.args.block.statements.now = c.loop-i.auto.told ∙ length-take-le _ _ (omega arith) in
+    sighted_more _ _ _ c.loop-i.i _ (omega arith) c.sight_at.ensures.value c.loop-i.invariant
 
-pub returns : goal.returns
-returns c =
-    let end : c.loop-i.i ≡ length c.args.block.now = (let low = c.loop-i-test.false in let high = c.loop-i.auto.i-end in omega arith) in
-    record {
-      value = subst (λ (n : ℕ). SightedTo (flows_of c.args.block.now) c.loop-i.sights n) end c.loop-i.invariant.0;
-      size = c.loop-i.invariant.1;
-    }
+pub returns-clause-value : goal.returns-clause-value
+returns-clause-value c =
+    let few = c.args.block.fit.few in
+    let flows = length-flows c.args.block.statements.now in
+    let long : length c.loop-i.told ≡ length c.args.block.statements.now = c.loop-i.auto.told ∙ length-take-le _ _ (omega arith) in
+    sighted_all _ _ _ _ c.loop-i.i long (omega arith) c.loop-i.invariant

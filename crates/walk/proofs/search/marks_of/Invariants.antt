@@ -9,8 +9,8 @@ invariant-loop-place l =
     (l.waiting.slots.ghost_name ≡ l.initial.waiting.slots.ghost_name)
     × (1530 ≤ length l.waiting.slots.now)
     × (drop 1530 l.waiting.slots.now ≡ drop 1530 l.initial.waiting.slots.now)
-    × Hunt (flows_of l.block) l.seen (waiting_on l.waiting.slots.now l.waiting.depth)
-    × Marked l.seen 1 0
+    × Hunt (flows_of l.block.statements.now) l.marks.marked (waiting_on l.waiting.slots.now l.waiting.depth)
+    × Marked l.marks.marked 1 0
 
 abbrev pub decreases-loop-place : goal.decreases-loop-place
-decreases-loop-place l = l.waiting.depth + 2 * unmarked l.seen
+decreases-loop-place l = l.waiting.depth + 2 * unmarked l.marks.marked

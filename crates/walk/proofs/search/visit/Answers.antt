@@ -10,46 +10,44 @@ use Rattle.walk.proofs.search.visit.Goals as goal
 pub goes_to-to-requires : goal.goes_to-to-requires
 goes_to-to-requires c =
     let w = on_walk _ _ _ c.args.place c.requires.hunt in
-    let r = walk_in _ c.requires.fit w in
-    let few = c.requires.fit.few in
-    let long = length-flows c.args.block.now in
-    record { low = r.low; high = omega arith; brackets = r.few; few = omega arith }
+    let r = walk_in _ c.args.block.fit w in
+    let few = c.args.block.fit.few in
+    let long = length-flows c.args.block.statements.now in
+    record { low = r.low; high = omega arith; brackets = r.few }
 
 pub note-requires : goal.note-requires
 note-requires c =
-    let block = flows_of c.args.block.now in
+    let block = flows_of c.args.block.statements.now in
     let stack = c.args.waiting.now in
     let h = c.requires.hunt in
     let w = on_walk _ _ _ c.args.place h in
     let deep = waiting_length stack.slots.now stack.depth stack.within in
     let room = h.room in
     record {
-      inside = inside block _ _ _ c.requires.fit h (λ q e. on_next block c.args.place w q (sym c.goes_to-to.ensures.on ∙ e));
-      size = h.size;
+      inside = inside block _ _ _ c.args.block.fit h (λ q e. on_next block c.args.place w q (sym c.goes_to-to.ensures.on ∙ e));
       room = omega arith;
       slots = c.requires.slots;
     }
 
 pub note-requires-2 : goal.note-requires-2
 note-requires-2 c =
-    let block = flows_of c.args.block.now in
+    let block = flows_of c.args.block.statements.now in
     let stack = c.note.new.waiting in
     let w = on_walk _ _ _ c.args.place c.requires.hunt in
-    let h = half block _ _ _ _ c.args.place _ c.requires.fit (λ q e. on_next block c.args.place w q (sym c.goes_to-to.ensures.on ∙ e)) c.note.ensures.seen c.note.ensures.waiting c.requires.hunt in
+    let h = half block _ _ _ _ c.args.place _ c.args.block.fit (λ q e. on_next block c.args.place w q (sym c.goes_to-to.ensures.on ∙ e)) c.note.ensures.seen c.note.ensures.waiting c.requires.hunt in
     let deep = waiting_length stack.slots.now stack.depth stack.within in
     let room = h.room in
     record {
-      inside = inside block _ _ _ c.requires.fit h (λ q e. jump_next block c.args.place w q (sym c.goes_to-to.ensures.jump ∙ e));
-      size = h.size;
+      inside = inside block _ _ _ c.args.block.fit h (λ q e. jump_next block c.args.place w q (sym c.goes_to-to.ensures.jump ∙ e));
       room = omega arith;
       slots = omega arith;
     }
 
 pub returns : goal.returns
 returns c =
-    let block = flows_of c.args.block.now in
+    let block = flows_of c.args.block.statements.now in
     let p = c.args.place in
-    let fit = c.requires.fit in
+    let fit = c.args.block.fit in
     let stack = c.args.waiting.now in
     let stack₂ = c.note-2.new.waiting in
     let w = on_walk _ _ _ p c.requires.hunt in
