@@ -1,7 +1,7 @@
 -- How many blocks the slots hold. Assumes nothing.
-use Rattle.std.proofs.Common.{◌≡◌, ℕ, zero, suc, ◌+◌, ◌<◌, ◌≤◌, true, false, List, [], ◌∷◌, length, drop, set, is_some, Some, None, Option, refl, ap, ◌∙◌, arith}
+use Rattle.std.proofs.Common.{◌≡◌, ℕ, zero, suc, ◌+◌, ◌<◌, ◌≤◌, true, false, List, [], ◌∷◌, length, drop, set, is_some, Some, None, Option, filter, cond, sym, refl, ap, ◌∙◌, arith}
 use Rattle.std.specs.Option.{option_to_list}
-use Rattle.std.proofs.lemmas.List.{at_drop_more, at_drop_all, length-append}
+use Rattle.std.proofs.lemmas.List.{at_drop_more, length-append}
 use Rattle.awl.specs.declared.names.BlockName.{BlockName}
 use Rattle.store.specs.Slots.{free, name_in, names_in}
 use Rattle.store.specs.declared.slots.Slot.{Slot}
@@ -12,8 +12,14 @@ names_more ss i h =
     at_drop_more (λ (xs : List Slot). length (names_in xs)) ss i free h
     ∙ length-append (option_to_list (name_in ss i)) (names_in (drop (i + 1) ss))
 
-pub names-ended : (ss : List Slot) (i : ℕ) → length ss ≤ i → length (names_in (drop i ss)) ≡ 0
-names-ended ss i h = at_drop_all (λ (xs : List Slot). length (names_in xs)) ss i h
+-- as many names as slots that have one
+pub names_count : (ss : List Slot) → length (filter (λ s. is_some s.name) ss) ≡ length (names_in ss)
+names_count [] = refl
+names_count (s ∷ ss) = one s.name ∙ ap (λ (n : ℕ). length (option_to_list s.name) + n) (names_count ss) ∙ sym (length-append (option_to_list s.name) (names_in ss))
+  where
+    one : (o : Option BlockName) → length (cond (is_some o) (s ∷ filter (λ x. is_some x.name) ss) (filter (λ x. is_some x.name) ss)) ≡ length (option_to_list o) + length (filter (λ x. is_some x.name) ss)
+    one None = omega arith
+    one (Some n) = omega arith
 
 -- one slot changed
 pub names-set : (ss : List Slot) (i : ℕ) (s : Slot) → i < length ss → length (names_in (set ss i s)) + length (option_to_list (name_in ss i)) ≡ length (names_in ss) + length (option_to_list s.name)

@@ -1,8 +1,10 @@
 -- The slot that a name finds is the one that has it. Assumes nothing.
-use Rattle.std.proofs.Common.{◌≡◌, ℕ, zero, suc, ◌+◌, ◌<◌, ◌≤◌, Bool, true, false, cond, List, [], ◌∷◌, length, get_or, drop, Some, None, Option, refl, ap, ◌∙◌, arith}
-use Rattle.std.proofs.lemmas.List.{at_drop_more, at_drop_all, get_or_past}
+use Rattle.std.proofs.Common.{◌≡◌, ℕ, zero, suc, ◌+◌, ◌<◌, Bool, true, false, cond, List, [], ◌∷◌, length, Some, None, Option, MatchOption, refl, ap, ◌∙◌, arith}
+use Rattle.std.specs.List.{position, position_from}
+use Rattle.std.specs.Option.{IsSomeAnd}
+use Rattle.std.proofs.lemmas.Iterator.Adapters.{position_from-zero}
 use Rattle.awl.specs.declared.names.BlockName.{BlockName}
-use Rattle.store.specs.Slots.{free, is_named, slot_from, slot_in, name_in, Single}
+use Rattle.store.specs.Slots.{is_named, slot_from, slot_in, name_in, Single}
 use Rattle.store.specs.declared.slots.Slot.{Slot}
 use Rattle.store.proofs.Naming.{name_from_named, named_from_name, share_from_names}
 
@@ -58,22 +60,16 @@ named_slot ss n i single e =
     ] in
     step (slot_in ss n) refl
 
--- one step of the search, at the slot that stands at i
-slot_step : (ss : List Slot) (i : ℕ) (n : BlockName) (d : Slot) (b : Bool) → i < length ss → is_named (get_or ss i d).name n ≡ b → slot_from i (drop i ss) n ≡ cond b (Some i) (slot_from (i + 1) (drop (i + 1) ss) n)
-slot_step ss i n d b h f =
-    at_drop_more (λ (xs : List Slot). slot_from i xs n) ss i d h
-    ∙ ap (λ (c : Bool). cond c (Some i) (slot_from (i + 1) (drop (i + 1) ss) n)) f
+-- the slot of a name is the first that has it
+pub slot_position : (ss : List Slot) (n : BlockName) → position (λ s. is_named s.name n) ss ≡ slot_in ss n
+slot_position ss n = position_from-zero (λ (s : Slot). is_named s.name n) ss ∙ from 0 ss
+  where
+    from : (i : ℕ) (xs : List Slot) → position_from (λ (s : Slot). is_named s.name n) i xs ≡ slot_from i xs n
+    from i [] = refl
+    from i (x ∷ xs) = ap (cond (is_named x.name n) (Some i)) (from (i + 1) xs)
 
--- the search passes a slot of another name, ends at the slot of the name, and ends behind the last
-pub slot_skips : (ss : List Slot) (i : ℕ) (n : BlockName) (d : Slot) → i < length ss → is_named (get_or ss i d).name n ≡ false → slot_from i (drop i ss) n ≡ slot_from (i + 1) (drop (i + 1) ss) n
-slot_skips ss i n d h f = slot_step ss i n d false h f
-
-pub slot_hits : (ss : List Slot) (i : ℕ) (n : BlockName) (d : Slot) → i < length ss → is_named (get_or ss i d).name n ≡ true → slot_from i (drop i ss) n ≡ Some i
-slot_hits ss i n d h f = slot_step ss i n d true h f
-
-pub slot_ends : (ss : List Slot) (i : ℕ) (n : BlockName) → length ss ≤ i → slot_from i (drop i ss) n ≡ None
-slot_ends ss i n h = at_drop_all (λ (xs : List Slot). slot_from i xs n) ss i h
-
--- a slot past the last has no name
-pub name_past : (ss : List Slot) (i : ℕ) → length ss ≤ i → name_in ss i ≡ None
-name_past ss i h = ap (λ (s : Slot). s.name) (get_or_past ss i free h)
+-- a number cast as it is found
+pub cast_same : (P : ℕ → ℕ → Type 0) (found cast : Option ℕ) → MatchOption found (cast ≡ None) (λ i. IsSomeAnd cast (P i)) → ((i j : ℕ) → P i j → j ≡ i) → cast ≡ found
+cast_same P None cast e same = e
+cast_same P (Some i) (Some j) e same = ap Some (same i j e)
+cast_same P (Some i) None e same = absurd e

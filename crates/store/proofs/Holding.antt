@@ -1,5 +1,5 @@
 -- A store's slots and names: each name finds its slot, each slot its name and its statements. Assumes nothing.
-use Rattle.std.proofs.Common.{◌≡◌, ℕ, ◌+◌, ◌-◌, ◌*◌, ◌<◌, ◌≤◌, List, [], map, get_or, take, drop, is_some, Some, None, vec_items, Option, refl, ap, ◌∙◌, ap₂, arith}
+use Rattle.std.proofs.Common.{◌≡◌, ℕ, ◌*◌, ◌<◌, ◌≤◌, List, [], map, get_or, take, drop, is_some, Some, None, vec_items, Option, refl, ap, ◌∙◌, ap₂, arith}
 use Rattle.std.specs.Option.{option_map}
 use Rattle.std.proofs.lemmas.List.{get_or_past}
 use Rattle.parser.specs.Statements.{written}
@@ -46,11 +46,9 @@ pub held_found : (s : Store) (n : BlockName) → is_some (blocks s n) ≡ is_som
 held_found s n = ap is_some (block_in_slot s n) ∙ some_mapped (text_at s) (slot_of s n)
 
 -- the statements in a slot are a part of the table; past the 32 slots there are none
-pub text_part : (s : Store) (i : ℕ) (table : List Statement) → table ≡ vec_items s.statements → map written (take (i * 255 + size_in s.slots i - i * 255) (drop (i * 255) table)) ≡ text_at s i
+pub text_part : (s : Store) (i size : ℕ) (table part : List Statement) → size ≡ size_in s.slots i → table ≡ vec_items s.statements → part ≡ take size (drop (i * 255) table) → map written part ≡ text_at s i
 unfolding statements_in
-text_part s i table e =
-    let size : i * 255 + size_in s.slots i - i * 255 ≡ size_in s.slots i = omega arith in
-    ap₂ (λ (n : ℕ) (t : List Statement). map written (take n (drop (i * 255) t))) size e
+text_part s i size table part long e is = ap (map written) is ∙ ap₂ (λ (n : ℕ) (t : List Statement). map written (take n (drop (i * 255) t))) long e
 
 pub text_past : (s : Store) (i : ℕ) → 32 ≤ i → text_at s i ≡ []
 unfolding statements_in
@@ -70,8 +68,6 @@ pub laid_found : (s : Store) (n : ℕ) → is_some (data_blocks s n) ≡ is_some
 laid_found s n = ap is_some (data_in_slot s n) ∙ some_mapped (words_in s.data_slots (vec_items s.words)) (data_slot_in s.data_slots s.laid n)
 
 -- the words in a data slot are a part of the table
-pub words_part : (ds : List DataSlot) (i : ℕ) (table words : List ℕ) → table ≡ words → take (i * 256 + (get_or ds i bare).size - i * 256) (drop (i * 256) table) ≡ words_in ds words i
+pub words_part : (ds : List DataSlot) (i : ℕ) (table words part : List ℕ) → table ≡ words → part ≡ take (get_or ds i bare).size (drop (i * 256) table) → part ≡ words_in ds words i
 unfolding words_in
-words_part ds i table words e =
-    let size : i * 256 + (get_or ds i bare).size - i * 256 ≡ (get_or ds i bare).size = omega arith in
-    ap₂ (λ (n : ℕ) (t : List ℕ). take n (drop (i * 256) t)) size e
+words_part ds i table words part e is = is ∙ ap (λ (t : List ℕ). take (get_or ds i bare).size (drop (i * 256) t)) e

@@ -3,7 +3,9 @@ use Rattle.std.proofs.Common.{◌≡◌, ℕ, suc, ◌+◌, ◌*◌, ◌<◌, �
 use mathlib.Core.Path.{fun_ext}
 use lib.Seq.{paste}
 use Rattle.std.specs.Option.{option_map, option_or}
-use Rattle.std.proofs.lemmas.List.{at_drop_more, at_drop_all, get_or-take, get_or-set_same, get_or-set_other, length-take-le, length-replicate, take_more_set, take-replicate}
+use Rattle.std.specs.List.{position, position_from}
+use Rattle.std.proofs.lemmas.Iterator.Adapters.{position_from-zero}
+use Rattle.std.proofs.lemmas.List.{get_or-set_same, get_or-set_other, length-take-le, length-replicate, take_more_set, take-replicate}
 use Rattle.std.proofs.lemmas.Bool.{cases_eq, eqb-true, eqb-false, eq-eqb, ne_eqb}
 use Rattle.store.specs.Slots.{bare, data_slot_from, data_slot_in, words_in, Sized}
 use Rattle.store.specs.declared.slots.DataSlot.{DataSlot}
@@ -13,24 +15,13 @@ use Rattle.store.specs.declared.store.Store.{Store}
 use Rattle.store.proofs.Holding.{laid_found}
 use Rattle.store.proofs.Pasting.{paste_inside, paste_outside}
 
--- one step of the search, at the slot that stands at i
-data_step : (ds : List DataSlot) (i count number : ℕ) (b : Bool) → i < count → count ≤ length ds → eqb (get_or ds i bare).number number ≡ b → data_slot_from i (drop i (take count ds)) number ≡ cond b (Some i) (data_slot_from (i + 1) (drop (i + 1) (take count ds)) number)
-data_step ds i count number b h l f =
-    let size = length-take-le count ds l in
-    at_drop_more (λ (xs : List DataSlot). data_slot_from i xs number) (take count ds) i bare (omega arith)
-    ∙ ap (λ (c : Bool). cond c (Some i) (data_slot_from (i + 1) (drop (i + 1) (take count ds)) number)) (ap (λ (d : DataSlot). eqb d.number number) (get_or-take count ds i bare h) ∙ f)
-
--- the search passes another number, ends at the number, and ends behind the last that is laid
-pub data_skips : (ds : List DataSlot) (i count number : ℕ) → i < count → count ≤ length ds → ((get_or ds i bare).number ≡ number → ⊥) → data_slot_from i (drop i (take count ds)) number ≡ data_slot_from (i + 1) (drop (i + 1) (take count ds)) number
-data_skips ds i count number h l f = data_step ds i count number false h l (ne_eqb (get_or ds i bare).number number f)
-
-pub data_hits : (ds : List DataSlot) (i count number : ℕ) → i < count → count ≤ length ds → (get_or ds i bare).number ≡ number → data_slot_from i (drop i (take count ds)) number ≡ Some i
-data_hits ds i count number h l f = data_step ds i count number true h l (eq-eqb (get_or ds i bare).number number f)
-
-pub data_ends : (ds : List DataSlot) (i count number : ℕ) → count ≤ i → count ≤ length ds → data_slot_from i (drop i (take count ds)) number ≡ None
-data_ends ds i count number h l =
-    let size = length-take-le count ds l in
-    at_drop_all (λ (xs : List DataSlot). data_slot_from i xs number) (take count ds) i (omega arith)
+-- the data slot of a number is the first that has it
+pub data_position : (ds : List DataSlot) (count number : ℕ) → position (λ s. eqb s.number number) (take count ds) ≡ data_slot_in ds count number
+data_position ds count number = position_from-zero (λ (s : DataSlot). eqb s.number number) (take count ds) ∙ from 0 (take count ds)
+  where
+    from : (i : ℕ) (xs : List DataSlot) → position_from (λ (s : DataSlot). eqb s.number number) i xs ≡ data_slot_from i xs number
+    from i [] = refl
+    from i (x ∷ xs) = ap (cond (eqb x.number number) (Some i)) (from (i + 1) xs)
 
 -- what is found is one of the list
 abbrev Below : ℕ → List DataSlot → Option ℕ → Type 0

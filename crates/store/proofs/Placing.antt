@@ -1,28 +1,25 @@
 -- Where a block goes: the first slot that no block has, and what a place says of the slot. Assumes nothing.
-use Rattle.std.proofs.Common.{◌≡◌, ℕ, suc, ◌+◌, ◌<◌, ◌≤◌, Bool, true, false, cond, ◌⊎◌, List, [], ◌∷◌, length, drop, is_some, Some, None, Option, refl, ap, ◌∙◌, inl, inr, arith}
+use Rattle.std.proofs.Common.{◌≡◌, ℕ, suc, ◌+◌, ◌<◌, Bool, true, false, cond, not, ◌⊎◌, List, [], ◌∷◌, length, is_some, Some, None, Option, refl, ap, ◌∙◌, inl, inr, arith}
 use Rattle.std.specs.Option.{option_or, option_to_list}
-use Rattle.std.proofs.lemmas.List.{at_drop_more, at_drop_all}
+use Rattle.std.specs.List.{position, position_from}
+use Rattle.std.proofs.lemmas.Iterator.Adapters.{position_from-zero}
 use Rattle.awl.specs.declared.names.BlockName.{BlockName}
-use Rattle.store.specs.Slots.{free, slot_in, free_from, place_in, name_in, names_in, Single}
+use Rattle.store.specs.Slots.{slot_in, free_from, place_in, name_in, names_in, Single}
 use Rattle.store.specs.declared.slots.Slot.{Slot}
 use Rattle.store.proofs.Finding.{slot_named, named_slot}
 use Rattle.store.proofs.Counting.{names_more, names_fewer}
 
--- one step of the search for a free slot, at the slot that stands at i
-free_step : (ss : List Slot) (i : ℕ) (b : Bool) → i < length ss → is_some (name_in ss i) ≡ b → free_from i (drop i ss) ≡ cond b (free_from (i + 1) (drop (i + 1) ss)) (Some i)
-free_step ss i b h f =
-    at_drop_more (λ (xs : List Slot). free_from i xs) ss i free h
-    ∙ ap (λ (c : Bool). cond c (free_from (i + 1) (drop (i + 1) ss)) (Some i)) f
+-- the free slot is the first that no block has
+pub free_position : (ss : List Slot) → position (λ s. not (is_some s.name)) ss ≡ free_from 0 ss
+free_position ss = position_from-zero (λ (s : Slot). not (is_some s.name)) ss ∙ from 0 ss
+  where
+    turned : (b : Bool) (x y : Option ℕ) → cond (not b) x y ≡ cond b y x
+    turned true x y = refl
+    turned false x y = refl
 
--- the search passes a slot that a block has, ends at one that none has, and ends behind the last
-pub free_skips : (ss : List Slot) (i : ℕ) → i < length ss → is_some (name_in ss i) ≡ true → free_from i (drop i ss) ≡ free_from (i + 1) (drop (i + 1) ss)
-free_skips ss i h f = free_step ss i true h f
-
-pub free_hits : (ss : List Slot) (i : ℕ) → i < length ss → is_some (name_in ss i) ≡ false → free_from i (drop i ss) ≡ Some i
-free_hits ss i h f = free_step ss i false h f
-
-pub free_ends : (ss : List Slot) (i : ℕ) → length ss ≤ i → free_from i (drop i ss) ≡ None
-free_ends ss i h = at_drop_all (λ (xs : List Slot). free_from i xs) ss i h
+    from : (i : ℕ) (xs : List Slot) → position_from (λ (s : Slot). not (is_some s.name)) i xs ≡ free_from i xs
+    from i [] = refl
+    from i (x ∷ xs) = turned (is_some x.name) (Some i) _ ∙ ap (λ (o : Option ℕ). cond (is_some x.name) o (Some i)) (from (i + 1) xs)
 
 none_from_test : (o : Option BlockName) → is_some o ≡ false → o ≡ None
 none_from_test None h = refl

@@ -23,9 +23,6 @@ impl Slot {
     pub fn is_named(self, name: BlockName) -> bool
         ensures value { result ≡ is_named self.name name }
     {
-        match self.name {
-            Some(own) => own == name,
-            None => false,
-        }
+        self.name == Some(name)
     }
 }

@@ -12,7 +12,7 @@ pub mod questions;
 pub mod writing;
 
 // Slot i of 32 has the statements from 255 * i on, data slot i of 16 the words from 256 * i on. Data blocks are laid one
-// slot after another.
+// slot after another, and stay: a count beside a table of fixed size, since a store never allocates.
 #[derive(Drop)]
 pub struct Store {
     number: u32,

@@ -1,6 +1,5 @@
 // Data blocks: laying one, and what can be asked of those that are laid. It knows nothing of statements.
 ghost use Rattle.std.specs.Prelude.{◌≡◌, ◌+◌, ◌<◌, ◌≤◌, false, replicate, is_some, IfSome, Some, OnErr};
-ghost use Rattle.std.specs.List.{slice_get};
 ghost use Rattle.std.specs.Option.{option_map};
 ghost use Rattle.store.specs.Calls.{lay_answer, data_laid, count_laid, SameBlocks};
 ghost use Rattle.store.specs.Held.{data_blocks, data_count, with_data, word_of};
@@ -8,7 +7,7 @@ ghost use Rattle.store.specs.Slots.{data_slot_in, words_in};
 
 use crate::slots::DataSlot;
 use crate::store::Store;
-use crate::tables::put_zeros;
+use crate::tables::{part, put_zeros};
 use awl::refusals::Refusal;
 
 impl Store {
@@ -38,30 +37,22 @@ impl Store {
     pub fn lays(&self, number: u8) -> bool
         ensures value { result ≡ is_some (data_blocks self.now number) }
     {
-        match self.find_data(number) {
-            Some(_) => true,
-            None => false,
-        }
+        self.find_data(number).is_some()
     }
 
     // The words of the data block of a number, or none.
     pub fn words(&self, number: u8) -> Option<&[u16]>
         ensures value { option_map (λ words. words.now) result ≡ data_blocks self.now number }
     {
-        match self.find_data(number) {
-            Some(slot) => Some(self.words_at(slot)),
-            None => None,
-        }
+        let slot = self.find_data(number)?;
+        Some(self.words_at(slot))
     }
 
     // A word of the data block of a number, from 0; none where the block is not laid or lacks the word.
     pub fn word(&self, number: u8, n: u8) -> Option<u16>
         ensures value { result ≡ word_of (data_blocks self.now number) n }
     {
-        match self.words(number) {
-            Some(words) => word_of(words, n as usize),
-            None => None,
-        }
+        self.words(number)?.get(n as usize).copied()
     }
 
     // The data slot of a number, or none.
@@ -70,12 +61,9 @@ impl Store {
         ensures bound { IfSome result (λ i. i < self.now.laid) }
         ensures held { data_blocks self.now number ≡ option_map (words_in self.now.data_slots self.now.words.items) result }
     {
-        for i in 0..self.laid {
-            if self.data_slots[i].number == number {
-                return Some(i);
-            }
-        }
-        None
+        self.data_slots[..self.laid]
+            .iter()
+            .position(|slot| slot.number == number)
     }
 
     // The words in a data slot.
@@ -83,10 +71,8 @@ impl Store {
         requires { slot < self.now.laid }
         ensures value { result.now ≡ words_in self.now.data_slots self.now.words.items slot }
     {
-        let table = self.words.as_slice();
-        let first = slot * 256;
         let size = self.data_slots[slot].size as usize;
-        &table[first..first + size]
+        part::<u16, 256>(&self.words, slot, size)
     }
 
     // One more data block, in the next slot.
@@ -103,16 +89,5 @@ impl Store {
         put_zeros(&mut self.words, slot, size as usize);
         self.data_slots[slot] = DataSlot { number, size };
         self.laid = slot + 1;
-    }
-}
-
-// One of the words, or none.
-fn word_of(words: &[u16], n: usize) -> Option<u16>
-    ensures value { result ≡ slice_get words.now n }
-{
-    if n < words.len() {
-        Some(words[n])
-    } else {
-        None
     }
 }

@@ -5,6 +5,7 @@ ghost use Rattle.parser.specs.Statements.{written};
 ghost use Rattle.store.specs.Held.{slot_of, name_at, text_at, blocks, block_count, Readable};
 
 use crate::store::Store;
+use crate::tables::part;
 use awl::names::BlockName;
 use awl::statements::Statement;
 
@@ -15,22 +16,17 @@ impl Store {
         ensures bound { IfSome result (λ i. i < 32) }
         ensures held { blocks self.now name ≡ option_map (text_at self.now) result }
     {
-        for slot in 0..32 {
-            if self.slots[slot].is_named(name) {
-                return Some(slot as u8);
-            }
-        }
-        None
+        self.slots
+            .iter()
+            .position(|slot| slot.is_named(name))
+            .map(|slot| slot as u8)
     }
 
     // The name of the block in a slot; none from 32 on.
     pub fn name_at(&self, slot: u8) -> Option<BlockName>
         ensures value { result ≡ name_at self.now slot }
     {
-        if slot < 32 {
-            return self.slots[slot as usize].name;
-        }
-        None
+        self.slots.get(slot as usize)?.name
     }
 
     // The statements of the block in a slot; none where no block has it, and from 32 on.
@@ -38,53 +34,31 @@ impl Store {
         ensures value { map written result.now ≡ text_at self.now slot }
         ensures readable { (n : BlockName) → name_at self.now slot ≡ Some n → Readable (map written result.now) }
     {
-        self.entries(slot)
+        let slot = slot as usize;
+        let Some(entry) = self.slots.get(slot) else {
+            return &[];
+        };
+        part::<Statement, 255>(&self.statements, slot, entry.size as usize)
     }
 
     // The statements of the block of a name, or none.
     pub fn block(&self, name: BlockName) -> Option<&[Statement]>
         ensures value { option_map (λ block. map written block.now) result ≡ blocks self.now name }
     {
-        match self.find(name) {
-            Some(slot) => Some(self.statements_at(slot)),
-            None => None,
-        }
+        self.find(name).map(|slot| self.statements_at(slot))
     }
 
     // Whether a block of the name is held.
     pub fn holds(&self, name: BlockName) -> bool
         ensures value { result ≡ is_some (blocks self.now name) }
     {
-        match self.find(name) {
-            Some(_) => true,
-            None => false,
-        }
+        self.find(name).is_some()
     }
 
     // How many blocks are held.
     pub fn block_count(&self) -> usize
         ensures value { result ≡ block_count self.now }
     {
-        let mut count = 0;
-        for i in 0..32 {
-            if self.slots[i].name.is_some() {
-                count += 1;
-            }
-        }
-        count
-    }
-
-    // The entries of the table that the block in a slot takes.
-    fn entries(&self, slot: u8) -> &[Statement]
-        ensures value { map written result.now ≡ text_at self.now slot }
-        ensures readable { (n : BlockName) → name_at self.now slot ≡ Some n → Readable (map written result.now) }
-    {
-        let table = self.statements.as_slice();
-        if slot >= 32 {
-            return &table[0..0];
-        }
-        let first = slot as usize * 255;
-        let size = self.slots[slot as usize].size as usize;
-        &table[first..first + size]
+        self.slots.iter().filter(|slot| slot.name.is_some()).count()
     }
 }

@@ -37,22 +37,17 @@ impl Store {
     fn free_slot(&self) -> Option<u8>
         ensures value { result ≡ free_from 0 self.now.slots }
     {
-        for i in 0..32 {
-            if self.slots[i].name.is_none() {
-                return Some(i as u8);
-            }
-        }
-        None
+        self.slots
+            .iter()
+            .position(|slot| slot.name.is_none())
+            .map(|slot| slot as u8)
     }
 
     // Where a block of the name goes: to its own slot, or to the first that no block has.
     fn place_for(&self, name: BlockName) -> Option<u8>
         ensures value { result ≡ place_in self.now.slots name }
     {
-        match self.find(name) {
-            Some(slot) => Some(slot),
-            None => self.free_slot(),
-        }
+        self.find(name).or_else(|| self.free_slot())
     }
 
     // The block into its slot.

@@ -1,24 +1,20 @@
-use Rattle.std.proofs.Common.{Some, None, sym, ◌∙◌, arith}
-use Rattle.store.proofs.Finding.{slot_skips, slot_hits, slot_ends}
+use Rattle.std.proofs.Common.{◌≡◌, ◌∙◌, sym, rules, tests}
+use Rattle.std.proofs.lemmas.Iterator.{YieldsList-from_slice}
+use Rattle.std.proofs.lemmas.Iterator.Search.{position_from_yields_List}
+use Rattle.store.specs.Held.{slot_of}
+use Rattle.store.specs.Slots.{is_named}
+use Rattle.store.proofs.Finding.{slot_position, cast_same}
 use Rattle.store.proofs.Holding.{block_found}
 use Rattle.store.proofs.store.Store.find.Goals as goal
 
-pub returns-then-is_named : goal.returns-then-is_named
-returns-then-is_named c =
-    let s = c.args.self.now in
-    let i = c.loop-slot.slot in
-    let count = s.slot_count in
-    let found = sym c.loop-slot.invariant ∙ slot_hits s.slots i c.args.name _ (omega arith) (sym c.if-is_named.ensures.value) in
-    record { value = sym found; bound = c.loop-slot-test.true; held = block_found s c.args.name (Some i) found }
+found : (c : goal.After-map) → c.map.result ≡ slot_of c.args.self.now c.args.name
+found c =
+    cast_same _ c.position.result c.map.result c.map.ensures.cases (λ i j h. search rules)
+    ∙ position_from_yields_List (λ s. is_named s.name c.args.name) _ _ c.position.result c.position.ensures.ran (YieldsList-from_slice c.args.self.now.slots cc) (λ x b q k. search (rules, tests))
+    ∙ slot_position c.args.self.now.slots c.args.name
 
-pub loop-slot-preserved : goal.loop-slot-preserved
-loop-slot-preserved c =
-    let count = c.args.self.now.slot_count in
-    sym (slot_skips c.args.self.now.slots c.loop-slot.slot c.args.name _ (omega arith) (sym c.if-is_named.ensures.value)) ∙ c.loop-slot.invariant
+pub returns-clause-value : goal.returns-clause-value
+returns-clause-value c = found c
 
-pub returns : goal.returns
-returns c =
-    let s = c.args.self.now in
-    let count = s.slot_count in
-    let ended = sym c.loop-slot.invariant ∙ slot_ends s.slots c.loop-slot.slot c.args.name (omega arith) in
-    record { value = sym ended; bound = tt; held = block_found s c.args.name None ended }
+pub returns-clause-held : goal.returns-clause-held
+returns-clause-held c = block_found c.args.self.now c.args.name c.map.result (sym (found c))

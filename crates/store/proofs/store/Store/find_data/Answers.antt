@@ -1,27 +1,19 @@
-use Rattle.std.proofs.Common.{Some, None, sym, ◌∙◌, arith}
+use Rattle.std.proofs.Common.{◌≡◌, eqb, take, sym, ◌∙◌, rules, tests}
+use Rattle.std.proofs.lemmas.Iterator.{YieldsList-from_slice}
+use Rattle.std.proofs.lemmas.Iterator.Search.{position_from_yields_List}
+use Rattle.store.specs.Slots.{data_slot_in}
 use Rattle.store.proofs.Holding.{data_held}
-use Rattle.store.proofs.Numbering.{data_skips, data_hits, data_ends}
+use Rattle.store.proofs.Numbering.{data_position}
 use Rattle.store.proofs.store.Store.find_data.Goals as goal
 
-pub returns-then-self-i : goal.returns-then-self-i
-returns-then-self-i c =
+found : (c : goal.After-position) → c.position.result ≡ data_slot_in c.args.self.now.data_slots c.args.self.now.laid c.args.number
+found c =
     let s = c.args.self.now in
-    let few = s.few in
-    let count = s.data_slot_count in
-    let found = sym c.loop-i.invariant ∙ data_hits s.data_slots c.loop-i.i s.laid c.args.number c.loop-i-test.true (omega arith) c.if-self-i.true in
-    record { value = sym found; bound = c.loop-i-test.true; held = data_held s c.args.number (Some c.loop-i.i) found }
+    position_from_yields_List (λ x. eqb x.number c.args.number) _ _ c.position.result c.position.ensures.ran (YieldsList-from_slice (take s.laid s.data_slots) cc) (λ x b q k. search (rules, tests))
+    ∙ data_position s.data_slots s.laid c.args.number
 
-pub loop-i-preserved : goal.loop-i-preserved
-loop-i-preserved c =
-    let s = c.args.self.now in
-    let few = s.few in
-    let count = s.data_slot_count in
-    sym (data_skips s.data_slots c.loop-i.i s.laid c.args.number c.loop-i-test.true (omega arith) c.if-self-i.false) ∙ c.loop-i.invariant
+pub returns-clause-value : goal.returns-clause-value
+returns-clause-value c = found c
 
-pub returns : goal.returns
-returns c =
-    let s = c.args.self.now in
-    let few = s.few in
-    let count = s.data_slot_count in
-    let ended = sym c.loop-i.invariant ∙ data_ends s.data_slots c.loop-i.i s.laid c.args.number c.loop-i-test.false (omega arith) in
-    record { value = sym ended; bound = tt; held = data_held s c.args.number None ended }
+pub returns-clause-held : goal.returns-clause-held
+returns-clause-held c = data_held c.args.self.now c.args.number c.position.result (sym (found c))
