@@ -1,20 +1,21 @@
--- Places set to 0 one by one, and findings slot by slot.
-use Rattle.std.proofs.Common.{◌≡◌, ℕ, ◌+◌, ◌<◌, List, [], ◌∷◌, ◌++◌, length, get_or, drop, set, replicate, Some, sym, ap, ◌∙◌, subst, ⊎_elim, arith}
-use Rattle.std.proofs.lemmas.List.{drop_more, set_at, replicate_more, length-replicate, append_assoc, get_or-set_same, get_or-set_other}
+-- What was found, block by block and slot by slot.
+use Rattle.std.proofs.Common.{◌≡◌, ℕ, ◌+◌, ◌<◌, List, length, get_or, set, Some, None, Option, MatchOption, sym, ap, ◌∙◌, subst, ⊎_elim, arith}
+use Rattle.std.specs.Option.{unwrap_or}
+use Rattle.std.proofs.lemmas.List.{get_or-set_same, get_or-set_other}
 use Rattle.std.proofs.lemmas.Bool.{cases_eq}
 use Rattle.awl.specs.declared.names.BlockName.{BlockName}
 use Rattle.store.specs.Held.{name_at}
 use Rattle.store.specs.declared.store.Store.{Store}
+use Rattle.walk.specs.Findings.{Found}
+use Rattle.walk.specs.declared.flows.Flow.{Flow}
 use Rattle.walk.specs.declared.sights.Finding.{Finding}
 use Rattle.checker.specs.Joins.{IsOf, FoundTo}
 
--- one element more is z
-pub clear_more : {X : Type 0} (xs ys : List X) (i : ℕ) (z : X) → i < length xs → ys ≡ replicate i z ++ drop i xs → set ys i z ≡ replicate (i + 1) z ++ drop (i + 1) xs
-clear_more xs ys i z l e =
-    ap (λ (w : List _). set w i z) (e ∙ ap (λ (w : List _). replicate i z ++ w) (drop_more xs i z l))
-    ∙ set_at (replicate i z) (get_or xs i z) (drop (i + 1) xs) z i (length-replicate i z)
-    ∙ sym (append_assoc (replicate i z) (z ∷ []) (drop (i + 1) xs))
-    ∙ ap (λ (w : List _). w ++ drop (i + 1) xs) (replicate_more i z)
+-- what is found in a block that can be walked, whatever stands for nothing found
+pub found_or : (block : List Flow) (Refused : Type 0) (o : Option Finding) (d f : Finding) → f ≡ unwrap_or o d → (Refused → ⊥) →
+    MatchOption o Refused (λ g. Found block g.sights g.count) → Found block f.sights f.count
+found_or block Refused None d f e fit refused = absurd (fit refused)
+found_or block Refused (Some g) d f e fit found = subst (λ (x : Finding). Found block x.sights x.count) (sym e) found
 
 -- one slot more has its finding
 pub found_more : (s : Store) (findings : List Finding) (i : ℕ) (f : Finding) → i < length findings → ((b : BlockName) → name_at s i ≡ Some b → IsOf f s b) →

@@ -2,17 +2,19 @@
 use Rattle.std.proofs.Common.{◌≡◌, ℕ, zero, suc, ◌+◌, ◌-◌, ◌/◌, ◌%◌, ◌^◌, ◌<◌, Bool, true, false, cond, eqb, List, [], ◌∷◌, map, length, get_or, take, replicate, Some, None, sum_by, count_by, Option, sym, refl, ap, ◌∙◌, subst, zero-add, arith}
 use Rattle.std.proofs.lemmas.List.{take_all, length-map, get_or-map, length-take-le, get_or-take, length-replicate, get_or-replicate}
 use Rattle.std.proofs.lemmas.List.Sums.{sum_by-cons, sum_by-append, sum_by_more}
-use Rattle.std.proofs.lemmas.Bool.{eqb-true, eq-eqb, both_ways}
+use Rattle.std.proofs.lemmas.Bool.{eqb-true, eq-eqb, ne_eqb, both_ways, cond-true, cond-false}
 use Rattle.std.specs.Option.{option_to_list}
 use Rattle.awl.specs.declared.names.BlockName.{BlockName}
 use Rattle.store.proofs.Holding.{name_has_slot}
-use Rattle.store.specs.Held.{name_at}
+use Rattle.store.specs.Held.{slot_of, name_at}
 use Rattle.store.specs.Slots.{names_in, free}
 use Rattle.store.specs.declared.slots.Slot.{Slot}
 use Rattle.store.specs.declared.store.Store.{Store}
+use Rattle.walk.proofs.Lowests.{none_some}
 use Rattle.walk.specs.Findings.{Found, unseen}
 use Rattle.walk.specs.declared.sights.Finding.{Finding}
 use Rattle.walk.specs.declared.sights.Sight.{Sight}
+use Rattle.checker.specs.Chains.{In}
 use Rattle.checker.specs.Counts.{CountsIn, Counts, seen_in, seen_at, of_name, seen_by, seen_of}
 use Rattle.checker.specs.Joins.{FoundTo, Reach}
 use Rattle.checker.specs.Project.{Project, project_of, Holds, flows_in, outermost, Chain}
@@ -21,8 +23,11 @@ use Rattle.checker.proofs.Fitting.{slot_low, held_slot}
 use Rattle.checker.proofs.Sets.{none_in}
 
 -- without OB 1 no block is entered
-pub reach_nothing : (s : Store) → (Holds (project_of s) outermost → ⊥) → Reach s 0
-reach_nothing s lacks = record { only = λ i b named h. absurd (none_in i h); all = λ n i b named r. absurd (lacks (chain_start (project_of s) r)) }
+pub reach_unstarted : (s : Store) → slot_of s outermost ≡ None → Reach s 0
+reach_unstarted s none = record { only = λ i b named h. absurd (none_in i h); all = λ n i b named r. absurd (lacks (chain_start (project_of s) r)) }
+  where
+    lacks : Holds (project_of s) outermost → ⊥
+    lacks h = let slot = held_slot s outermost h in none_some slot.0 (sym none ∙ slot.1)
 
 map_count : (xs : List Sight) → count_by (λ x. x) (map (λ (y : Sight). y.walked) xs) ≡ count_by (λ (y : Sight). y.walked) xs
 map_count [] = refl
@@ -84,8 +89,17 @@ module _ (s : Store) (findings : List Finding) (reach : ℕ) (d : Finding) where
   abbrev pub added : Slot → ℕ
   added x = of_name (seen_of s findings reach d) x.name
 
-  pub adds : (i : ℕ) (b : BlockName) → name_at s i ≡ Some b → of_name (seen_of s findings reach d) (name_at s i) ≡ seen_at reach i (get_or findings i d)
-  adds i b named = ap (of_name (seen_of s findings reach d)) named ∙ ap (seen_by (λ j. seen_at reach j (get_or findings j d))) (name_has_slot s b i named)
+  of_slot : (i : ℕ) (b : BlockName) → name_at s i ≡ Some b → of_name (seen_of s findings reach d) (name_at s i) ≡ seen_at reach i (get_or findings i d)
+  of_slot i b named = ap (of_name (seen_of s findings reach d)) named ∙ ap (seen_by (λ j. seen_at reach j (get_or findings j d))) (name_has_slot s b i named)
+
+  pub adds_entered : (i : ℕ) (b : BlockName) (f : Finding) → name_at s i ≡ Some b → In reach i → f ≡ get_or findings i d → seen_in f ≡ of_name (seen_of s findings reach d) (name_at s i)
+  adds_entered i b f named on is = ap seen_in is ∙ sym (of_slot i b named ∙ cond-true _ (seen_in (get_or findings i d)) 0 (eq-eqb _ _ on))
+
+  pub adds_off : (i : ℕ) (b : BlockName) → name_at s i ≡ Some b → (In reach i → ⊥) → 0 ≡ of_name (seen_of s findings reach d) (name_at s i)
+  adds_off i b named off = sym (of_slot i b named ∙ cond-false _ (seen_in (get_or findings i d)) 0 (ne_eqb _ _ off))
+
+  pub adds_free : (i : ℕ) → name_at s i ≡ None → 0 ≡ of_name (seen_of s findings reach d) (name_at s i)
+  adds_free i free = sym (ap (of_name (seen_of s findings reach d)) free)
 
   names_sum : (each : BlockName → ℕ) (slots : List Slot) → sum_by (λ (x : Slot). of_name each x.name) slots ≡ sum_by each (names_in slots)
   names_sum each [] = refl
@@ -112,12 +126,6 @@ module _ (s : Store) (findings : List Finding) (reach : ℕ) (d : Finding) where
     right = each_right found r;
     total = e ∙ names_sum (seen_of s findings reach d) s.slots;
   }
-
--- what a sight tells stands in the list
-pub seen_walked : (sights : List Sight) (i : ℕ) (x : Sight) (t : Bool) → x ≡ get_or sights (i + 1 - 1) unseen → x.walked ≡ t → (get_or sights i unseen).walked ≡ t
-seen_walked sights i x t e w =
-    let at : i + 1 - 1 ≡ i = omega arith in
-    sym (ap (λ (j : ℕ). (get_or sights j unseen).walked) at) ∙ sym (ap (λ (y : Sight). y.walked) e) ∙ w
 
 -- any of the findings
 pub some_finding : (findings : List Finding) → 0 < length findings → Finding

@@ -1,13 +1,13 @@
 -- The first fault of a block, of the blocks of some slots, and of a project.
-use Rattle.std.proofs.Common.{◌≡◌, ℕ, ◌+◌, ◌<◌, ◌≤◌, Bool, true, ◌⊎◌, length, IfOk, Some, None, Ok, Err, Decides, Option, Result, sym, refl, ap, ◌∙◌, subst, ap₂, inl, inr, ⊎_elim, arith, MatchResult}
+use Rattle.std.proofs.Common.{◌≡◌, ℕ, ◌+◌, ◌<◌, ◌≤◌, Bool, true, ◌⊎◌, length, MatchOption, Some, None, Ok, Err, Decides, Option, Result, sym, refl, ap, ◌∙◌, subst, ap₂, inl, inr, ⊎_elim, arith}
 use Rattle.std.proofs.lemmas.Bool.{cases_lt, cases_order, both_ways}
+use Rattle.std.specs.Option.{ok_or}
 use Rattle.awl.specs.Order.{kind_rank, Before}
 use Rattle.awl.specs.declared.names.BlockKind.{BlockKind}
 use Rattle.awl.specs.declared.names.BlockKind.TheVariants.{Organisation, Program, Function}
 use Rattle.awl.specs.declared.names.BlockName.{BlockName}
-use Rattle.awl.specs.declared.refusals.Refusal.{Refusal}
 use Rattle.store.proofs.Holding.{name_has_slot}
-use Rattle.store.specs.Held.{name_at}
+use Rattle.store.specs.Held.{slot_of, name_at}
 use Rattle.store.specs.declared.store.Store.{Store}
 use Rattle.walk.proofs.Lowests.{none_some}
 use Rattle.walk.proofs.Ways.{walk_in}
@@ -15,14 +15,13 @@ use Rattle.walk.specs.Faults.{fault_number}
 use Rattle.walk.specs.Places.{Lowest}
 use Rattle.walk.specs.Walk.{Fit}
 use Rattle.walk.specs.declared.faults.Fault.{Fault as FaultKind}
+use Rattle.walk.specs.declared.faults.Fault.TheVariants.{NoStart}
 use Rattle.checker.specs.Chains.{In}
 use Rattle.checker.specs.Inside.{BadAt, FirstIn, JudgesIn}
 use Rattle.checker.specs.Joins.{Reached, FirstTo, JudgesTo, FirstHere, JudgesHere, Earlier}
 use Rattle.checker.specs.Project.{Project, project_of, Holds, flows_in, outermost, Met, at, k9}
-use Rattle.checker.specs.Verdicts.{NotAfter, Passes, First, Judges, is_pass}
+use Rattle.checker.specs.Verdicts.{NotAfter, Passes, First, Verdict, Judges, is_pass}
 use Rattle.checker.specs.declared.verdicts.Found.{Found}
-use Rattle.checker.specs.declared.verdicts.Verdict.{Verdict}
-use Rattle.checker.specs.declared.verdicts.Verdict.TheVariants.{Pass, Fault}
 use Rattle.checker.proofs.Chaining.{walk_chain, chain_held, chain_start, bad_met, met_bad, met_chain, some_same}
 use Rattle.checker.proofs.Fitting.{slot_low, held_slot}
 
@@ -98,9 +97,6 @@ before_all a b c s v x y t w l (inr m) = inl (subst (λ (n : BlockName). Before 
 
 -- slot by slot
 module _ (s : Store) where
-  pub judges_none : JudgesTo s 0 None
-  judges_none i b t w l named h = absurd (omega arith)
-
   slot_split : (n i : ℕ) (b : BlockName) → i < n + 1 → name_at s i ≡ Some b → (i < n) ⊎ (name_at s n ≡ Some b)
   slot_split n i b l named = ⊎_elim (λ (m : i < n). inl m) (λ (m : n ≤ i). let e : i ≡ n = omega arith in inr (sym (ap (name_at s) e) ∙ named)) (cases_lt i n)
 
@@ -158,11 +154,7 @@ module _ (s : Store) where
           omega arith
 
   module _ (reach last : ℕ) (r : Reached s reach last) (held : Holds (project_of s) outermost) (n : ℕ) where
-    -- a slot without a block has nothing
-    pub here-free : name_at s n ≡ None → JudgesHere s n None
-    here-free free b t w named h = none_some b (sym free ∙ named)
-
-    -- nor has one whose block is not entered
+    -- a slot whose block is not entered has nothing
     pub here-off : (b : BlockName) → name_at s n ≡ Some b → (In reach n → ⊥) → JudgesHere s n None
     here-off b named off c t w named' h =
         let ch = met_chain (project_of s) held h in
@@ -191,25 +183,38 @@ module _ (s : Store) where
       let i = held_slot s b (chain_held (project_of s) ch.1) in
       (i.0, slot_low s i.0 b i.2, i.2)
 
-  pub judges_pass : Holds (project_of s) outermost → JudgesTo s 32 None → Passes (project_of s)
+  judges_pass : Holds (project_of s) outermost → JudgesTo s 32 None → Passes (project_of s)
   judges_pass held j b t w h = let i = met_slot held h in j i.0 b t w i.1 i.2 h
 
-  pub judges_first : (f : Found) → Holds (project_of s) outermost → JudgesTo s 32 (Some f) → First (project_of s) f.block f.statement (fault_number f.fault)
+  judges_first : (f : Found) → Holds (project_of s) outermost → JudgesTo s 32 (Some f) → First (project_of s) f.block f.statement (fault_number f.fault)
   judges_first f held j = record { met = j.met; least = λ b t w h. let i = met_slot held h in j.least i.0 b t w i.1 i.2 h }
 
+  -- the verdict by the first fault, if any
+  pub judges_by : (o : Option Found) (v : Verdict) → Holds (project_of s) outermost → JudgesTo s 32 o → MatchOption o (v ≡ Ok tt) (λ f. v ≡ Err f) → Judges (project_of s) v
+  judges_by None v held j e = subst (λ (x : Verdict). Judges (project_of s) x) (sym e) (judges_pass held j)
+  judges_by (Some f) v held j e = subst (λ (x : Verdict). Judges (project_of s) x) (sym e) (judges_first f held j)
+
 -- without OB 1 nothing else is met
-pub judges_nothing : (p : Project) → (Holds p outermost → ⊥) → First p outermost 0 9
+judges_nothing : (p : Project) → (Holds p outermost → ⊥) → First p outermost 0 9
 judges_nothing p lacks = record { met = k9 lacks; least = λ b t w h. least h }
   where
     least : {b : BlockName} {t w : ℕ} → Met p b t w → NotAfter outermost 0 9 b t w
     least (at w h) = absurd (lacks (chain_start p (walk_chain p w).1))
     least (k9 l) = inr (refl, inr (refl, omega arith))
 
+-- what is told where no slot has OB 1
+pub judges_unstarted : (s : Store) (start : Option ℕ) (f : Found) → start ≡ slot_of s outermost → Err f ≡ ok_or start (record { block = outermost; statement = 0; fault = NoStart }) →
+    First (project_of s) f.block f.statement (fault_number f.fault)
+judges_unstarted s None f e told = subst (λ (g : Found). First (project_of s) g.block g.statement (fault_number g.fault)) (same f _ told) (judges_nothing (project_of s) lacks)
+  where
+    lacks : Holds (project_of s) outermost → ⊥
+    lacks h = let slot = held_slot s outermost h in none_some slot.0 (e ∙ slot.1)
+
+    same : (g h : Found) → ◌≡◌ {A = Result ℕ Found} (Err g) (Err h) → h ≡ g
+    same g h q = cc
+judges_unstarted s (Some i) f e told = cc
+
 -- a right verdict is pass exactly where the project passes
 pub judges_exact : (p : Project) (v : Verdict) → Judges p v → Decides (is_pass v) (Passes p)
-judges_exact p Pass j = (λ e. j, λ h. refl)
-judges_exact p (Fault f) j = (λ e. absurd (both_ways _ refl e), λ h. absurd (h f.block f.statement (fault_number f.fault) j.met))
-
-pub exact_case : (p : Project) (Q : Refusal → Type 0) (r : Result Verdict Refusal) → MatchResult r (λ v. Judges p v) Q → IfOk r (λ v. Decides (is_pass v) (Passes p))
-exact_case p Q (Ok v) j = judges_exact p v j
-exact_case p Q (Err e) j = tt
+judges_exact p (Ok pass) j = (λ e. j, λ h. refl)
+judges_exact p (Err f) j = (λ e. absurd (both_ways _ refl e), λ h. absurd (h f.block f.statement (fault_number f.fault) j.met))

@@ -1,5 +1,6 @@
 -- The lowest fault of a statement, by its sight.
-use Rattle.std.proofs.Common.{◌≡◌, ℕ, ◌+◌, ◌-◌, ◌<◌, ◌≤◌, Bool, true, false, cond, ◌&&◌, ◌⊎◌, List, get_or, is_some, Some, None, Decides, Option, sym, refl, ap, ◌∙◌, subst, inl, inr, ⊎_elim, arith}
+use Rattle.std.proofs.Common.{◌≡◌, ℕ, ◌+◌, ◌-◌, ◌<◌, ◌≤◌, Bool, true, false, cond, ◌&&◌, ◌⊎◌, List, length, get_or, take, is_some, Some, None, Decides, Option, sym, refl, ap, ◌∙◌, subst, inl, inr, ⊎_elim, arith}
+use Rattle.std.proofs.lemmas.List.{length-take, get_or-take, get_or_default}
 use Rattle.std.proofs.lemmas.Bool.{and_parts, and_from, both_ways}
 use Rattle.awl.specs.declared.names.BlockName.{BlockName}
 use Rattle.walk.proofs.Lowests.{lower_lowest, lowest_like}
@@ -127,6 +128,16 @@ module _ (p : Project) (deep : Bool) (block : List Flow) (s : ℕ) where
   walked_lowest true bare x is comes at = flow-lowest (comes.0 refl) bare at x is
   walked_lowest false bare x is comes at = λ v o. both_ways _ refl (comes.1 (o.0, o.1))
 
+-- a statement is one of those of a finding, and its sight is at its index
+pub sight_within : (sights : List Sight) (count i : ℕ) → i < length (take count sights) → i < count
+sight_within sights count i l = let n = length-take count sights in omega arith
+
+pub sight_here : (sights : List Sight) (count i : ℕ) (d : Sight) → i < length (take count sights) → get_or (take count sights) i d ≡ get_or sights (i + 1 - 1) unseen
+sight_here sights count i d l =
+    let n = length-take count sights in
+    let at : i ≡ i + 1 - 1 = omega arith in
+    get_or-take count sights i d (omega arith) ∙ get_or_default sights i d unseen (omega arith) ∙ ap (λ (j : ℕ). get_or sights j unseen) at
+
 -- the lowest of all faults of a statement
 seen_lowest : (p : Project) (b : BlockName) (deep : Bool) (s : ℕ) (x : Sight) → Sighted (flows_in p b) s x → Lowest (fault_seen p deep x) (BadAt p b deep s)
 unfolding fault_seen
@@ -137,9 +148,10 @@ seen_lowest p b deep s x seen =
     (lower_lowest (Meets (flows_in p b) s) (OutAt p deep (flows_in p b) s) x.fault _ seen.fault (walked_lowest p deep (flows_in p b) s x.walked x.bare x.flow seen.flow seen.walked seen.bare))
 
 -- the same by a block's finding
-pub found_lowest : (p : Project) (b : BlockName) (deep : Bool) (sights : List Sight) (count i : ℕ) (x : Sight) (o : Option Fault) →
-    Found (flows_in p b) sights count → i < count → x ≡ get_or sights (i + 1 - 1) unseen → o ≡ fault_seen p deep x → Lowest o (BadAt p b deep (i + 1))
-found_lowest p b deep sights count i x o of inside is seen =
+pub found_lowest : (p : Project) (b : BlockName) (deep : Bool) (sights : List Sight) (count i : ℕ) (d : Sight) (o : Option Fault) →
+    Found (flows_in p b) sights count → i < length (take count sights) → o ≡ fault_seen p deep (get_or (take count sights) i d) → Lowest o (BadAt p b deep (i + 1))
+found_lowest p b deep sights count i d o of l seen =
     let size = of.size in
-    let here = subst (λ (y : Sight). Sighted (flows_in p b) (i + 1) y) (sym is) (of.all (i + 1) (omega arith) (omega arith)) in
-    subst (λ (y : Option Fault). Lowest y (BadAt p b deep (i + 1))) (sym seen) (seen_lowest p b deep (i + 1) x here)
+    let within = sight_within sights count i l in
+    let here = subst (λ (y : Sight). Sighted (flows_in p b) (i + 1) y) (sym (sight_here sights count i d l)) (of.all (i + 1) (omega arith) (omega arith)) in
+    subst (λ (y : Option Fault). Lowest y (BadAt p b deep (i + 1))) (sym seen) (seen_lowest p b deep (i + 1) (get_or (take count sights) i d) here)

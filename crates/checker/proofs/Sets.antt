@@ -58,9 +58,6 @@ chain_in calls from l none = l
 chain_in calls from l (call r c) = c.0
 
 module _ (calls : List ℕ) where
-  pub called_none : (slots : ℕ) → Called calls slots 0 0
-  called_none slots = record { only = λ d h. absurd (none_in d h); all = λ b d l h k. absurd (omega arith) }
-
   pub called_skip : (slots b out : ℕ) → (In slots b → ⊥) → Called calls slots b out → Called calls slots (b + 1) out
   called_skip slots b out lacks c = record {
     only = λ d h. let o = c.only d h in (o.0, (let l = o.1 in omega arith), o.2, o.3);

@@ -1,9 +1,14 @@
 -- Sets of slots as bits, and chains of calls from slot to slot. It assumes nothing.
-use Rattle.std.specs.Prelude.{◌≡◌, ℕ, zero, suc, ◌/◌, ◌%◌, ◌^◌, ◌<◌, List, slice_index}
+use Rattle.std.specs.Prelude.{◌≡◌, ℕ, zero, suc, ◌/◌, ◌%◌, ◌^◌, ◌<◌, List, slice_index, bit_or}
 
 -- slot i is in a set
 abbrev pub In : ℕ → ℕ → Type 0
 In set i = set / 2 ^ i % 2 ≡ 1
+
+-- the slots of two sets, among 32
+pub record Union (one other both : ℕ) : Type 0 where
+  pub bits : both ≡ bit_or one other
+  pub few : both < 2 ^ 32
 
 -- the block in slot i calls that in slot j, one of 32
 abbrev pub Calls : List ℕ → ℕ → ℕ → Type 0

@@ -1,13 +1,15 @@
 // The verdict, joined from what the walk of each block found and from the names held. It reads no statement.
-ghost use Rattle.std.specs.Prelude.{◌≡◌, ◌<◌, ◌&&◌, is_some, if◌then◌else◌, None};
-ghost use Rattle.store.specs.Held.{slot_of, blocks, data_blocks};
+ghost use Rattle.std.specs.Prelude.{◌≡◌, ◌<◌, ◌&&◌, is_some, if◌then◌else◌, Some, None};
+ghost use Rattle.awl.specs.declared.names.BlockName.{BlockName as Name};
+ghost use Rattle.store.specs.Held.{slot_of, name_at, blocks, data_blocks};
 ghost use Rattle.walk.specs.Walk.{Fit};
 ghost use Rattle.checker.specs.Inside.{JudgesIn, fault_seen, entered_by, outward_of};
 ghost use Rattle.checker.specs.Joins.{IsOf, FoundTo, EntersTo, CallsTo, Reach, Reached, JudgesTo, JudgesHere, Earlier};
 ghost use Rattle.checker.specs.Project.{project_of, Holds, flows_in, outermost};
 ghost use Rattle.checker.specs.Verdicts.{Judges};
 
-use crate::chains::{entered, has, only, tenth};
+use crate::chains::{SlotSet, entered, tenth};
+use crate::surveys::Survey;
 use crate::verdicts::{Found, Verdict};
 use awl::names::{BlockKind, BlockName};
 use store::store::Store;
@@ -21,45 +23,32 @@ const OUTERMOST: BlockName = BlockName {
     number: 1,
 };
 
+// What is found where there is no OB 1.
+const NO_START: Found = Found {
+    block: OUTERMOST,
+    statement: 0,
+    fault: Fault::NoStart,
+};
+
 // The slot of the block that a statement's call enters, as a set; empty where it enters none that is held.
-fn entered_by(store: &Store, sight: Sight) -> u32
+fn entered_by(store: &Store, sight: Sight) -> SlotSet
     ensures value { result ≡ entered_by (slot_of store.now) sight }
 {
-    if !sight.bare {
-        return 0;
-    }
     match sight.flow {
-        Flow::Call(name) => match store.find(name) {
-            Some(slot) => only(slot),
-            None => 0,
-        },
-        _ => 0,
+        Flow::Call(name) if sight.bare => store.find(name).map_or(SlotSet::NONE, SlotSet::of),
+        _ => SlotSet::NONE,
     }
 }
 
 // The slots of the blocks that a block enters, by its finding.
-fn entered_from(store: &Store, finding: &Finding) -> u32
-    ensures value { (b : BlockName) → IsOf finding.now store.now b → EntersTo store.now b finding.now.count result }
+fn entered_from(store: &Store, finding: &Finding) -> SlotSet
+    ensures value { (b : Name) → IsOf finding.now store.now b → EntersTo store.now b finding.now.count result }
 {
-    let mut out = 0;
-    for i in 0..finding.count {
-        out |= entered_by(store, finding.sight(i as u8 + 1));
+    let mut out = SlotSet::NONE;
+    for sight in finding.sights[..finding.count].iter() {
+        out = out | entered_by(store, *sight);
     }
     out
-}
-
-// For each slot the slots of the blocks that its block enters.
-fn call_table(store: &Store, findings: &[Finding; 32]) -> [u32; 32]
-    requires { FoundTo store.now findings.now 32 }
-    ensures value { CallsTo store.now result 32 }
-{
-    let mut calls = [0; 32];
-    for slot in 0..32u8 {
-        if store.name_at(slot).is_some() {
-            calls[slot as usize] = entered_from(store, &findings[slot as usize]);
-        }
-    }
-    calls
 }
 
 // The fault that a statement has by what stands outside its block: K2, K7 or K8. `deep`: ten calls lead into its block.
@@ -90,12 +79,11 @@ fn first_in(store: &Store, name: BlockName, finding: &Finding, deep: bool) -> Op
     requires fit { Fit (flows_in (project_of store.now) name) }
     ensures value { JudgesIn (project_of store.now) name deep result }
 {
-    for i in 0..finding.count {
-        let statement = i as u8 + 1;
-        if let Some(fault) = fault_seen(store, finding.sight(statement), deep) {
+    for (i, sight) in finding.sights[..finding.count].iter().enumerate() {
+        if let Some(fault) = fault_seen(store, *sight, deep) {
             return Some(Found {
                 block: name,
-                statement,
+                statement: i as u8 + 1,
                 fault,
             });
         }
@@ -120,69 +108,84 @@ fn earlier(best: Option<Found>, other: Option<Found>) -> Option<Found>
     }
 }
 
-// The first fault of the block in a slot: none where the slot has no block, or one that is not entered.
-fn first_at(
-    store: &Store,
-    findings: &[Finding; 32],
-    reach: u32,
-    last: u32,
-    slot: u8,
-) -> Option<Found>
-    requires found { FoundTo store.now findings.now 32 }
-    requires reached { Reached store.now reach last }
-    requires start { Holds (project_of store.now) outermost }
-    requires slot { slot < 32 }
-    ensures value { JudgesHere store.now slot result }
-{
-    match store.name_at(slot) {
-        Some(name) if has(reach, slot) => {
-            first_in(store, name, &findings[slot as usize], has(last, slot))
+impl Survey<'_> {
+    // For each slot the slots of the blocks that its block enters.
+    fn call_table(&self) -> [SlotSet; 32]
+        requires { FoundTo self.now.store.now self.now.findings 32 }
+        ensures value { CallsTo self.now.store.now result 32 }
+    {
+        let mut calls = [SlotSet::NONE; 32];
+        for (slot, finding) in self.findings.iter().enumerate() {
+            if self.store.name_at(slot as u8).is_some() {
+                calls[slot] = entered_from(self.store, finding);
+            }
         }
-        _ => None,
+        calls
+    }
+
+    // The slots of the blocks that chains of calls enter; none where there is no OB 1.
+    pub(crate) fn reach(&self) -> SlotSet
+        requires { FoundTo self.now.store.now self.now.findings 32 }
+        ensures value { Reach self.now.store.now result }
+    {
+        let Some(start) = self.store.find(OUTERMOST) else {
+            return SlotSet::NONE;
+        };
+        entered(&self.call_table(), start)
+    }
+
+    // The verdict on the store.
+    pub(crate) fn verdict(&self) -> Verdict
+        requires { FoundTo self.now.store.now self.now.findings 32 }
+        ensures value { Judges (project_of self.now.store.now) result }
+    {
+        let start = self.store.find(OUTERMOST).ok_or(NO_START)?;
+        let calls = self.call_table();
+        let join = Join {
+            survey: self,
+            reach: entered(&calls, start),
+            last: tenth(&calls, start),
+        };
+        join.first().map_or(Ok(()), Err)
     }
 }
 
-// The first fault of all blocks that are entered.
-fn first_of(store: &Store, findings: &[Finding; 32], reach: u32, last: u32) -> Option<Found>
-    requires found { FoundTo store.now findings.now 32 }
-    requires reached { Reached store.now reach last }
-    requires start { Holds (project_of store.now) outermost }
-    ensures value { JudgesTo store.now 32 result }
-{
-    let mut best = None;
-    for slot in 0..32u8 {
-        best = earlier(best, first_at(store, findings, reach, last, slot));
-    }
-    best
+// A survey of a store that has an OB 1, with the slots that chains of calls enter, and those that ten calls lead into.
+#[derive(Drop)]
+struct Join<'a> {
+    survey: &'a Survey<'a>,
+    reach: SlotSet,
+    last: SlotSet,
 }
 
-// The slots of the blocks that chains of calls enter; none where there is no OB 1.
-pub(crate) fn reach_of(store: &Store, findings: &[Finding; 32]) -> u32
-    requires { FoundTo store.now findings.now 32 }
-    ensures value { Reach store.now result }
-{
-    match store.find(OUTERMOST) {
-        Some(start) => entered(&call_table(store, findings), start),
-        None => 0,
+impl Join<'_> {
+    // The first fault of the block in a slot: none where the slot has no block, or one that is not entered.
+    fn first_at(&self, slot: u8, finding: &Finding) -> Option<Found>
+        requires reached { Reached self.now.survey.now.store.now self.now.reach self.now.last }
+        requires start { Holds (project_of self.now.survey.now.store.now) outermost }
+        requires slot { slot < 32 }
+        requires of { (b : Name) → name_at self.now.survey.now.store.now slot ≡ Some b → IsOf finding.now self.now.survey.now.store.now b }
+        ensures value { JudgesHere self.now.survey.now.store.now slot result }
+    {
+        match self.survey.store.name_at(slot) {
+            Some(name) if self.reach.has(slot) => {
+                first_in(self.survey.store, name, finding, self.last.has(slot))
+            }
+            _ => None,
+        }
     }
-}
 
-// The verdict on a store whose blocks have these findings.
-pub(crate) fn verdict_of(store: &Store, findings: &[Finding; 32]) -> Verdict
-    requires { FoundTo store.now findings.now 32 }
-    ensures value { Judges (project_of store.now) result }
-{
-    let Some(start) = store.find(OUTERMOST) else {
-        return Verdict::Fault(Found {
-            block: OUTERMOST,
-            statement: 0,
-            fault: Fault::NoStart,
-        });
-    };
-    let calls = call_table(store, findings);
-    let reach = entered(&calls, start);
-    match first_of(store, findings, reach, tenth(&calls, start)) {
-        Some(found) => Verdict::Fault(found),
-        None => Verdict::Pass,
+    // The first fault of all blocks that are entered.
+    fn first(&self) -> Option<Found>
+        requires found { FoundTo self.now.survey.now.store.now self.now.survey.now.findings 32 }
+        requires reached { Reached self.now.survey.now.store.now self.now.reach self.now.last }
+        requires start { Holds (project_of self.now.survey.now.store.now) outermost }
+        ensures value { JudgesTo self.now.survey.now.store.now 32 result }
+    {
+        let mut best = None;
+        for (slot, finding) in self.survey.findings.iter().enumerate() {
+            best = earlier(best, self.first_at(slot as u8, finding));
+        }
+        best
     }
 }

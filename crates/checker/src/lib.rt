@@ -6,4 +6,5 @@ mod chains;
 pub mod check;
 mod counts;
 mod joins;
+mod surveys;
 pub mod verdicts;

@@ -10,8 +10,5 @@ pub struct Found {
     pub fault: Fault,
 }
 
-#[derive(Clone, Copy)]
-pub enum Verdict {
-    Pass, // the walk meets none of K1 to K9
-    Fault(Found), // the first fault that it meets
-}
+// Ok: the walk meets none of K1 to K9. Err: the first fault that it meets.
+pub type Verdict = Result<(), Found>;

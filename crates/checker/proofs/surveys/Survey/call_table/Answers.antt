@@ -3,15 +3,15 @@ use Rattle.std.proofs.lemmas.List.{length-set}
 use Rattle.checker.specs.Joins.{CallsTo}
 use Rattle.checker.proofs.Entering.{calls_none, calls_more, calls_skip}
 use Rattle.checker.proofs.Fitting.{some_is, none_is}
-use Rattle.checker.proofs.joins.call_table.Goals as goal
-use Rattle.checker.proofs.joins.call_table.Goals.{then-is_some, else-is_some}
+use Rattle.checker.proofs.surveys.Survey.call_table.Goals as goal
+use Rattle.checker.proofs.surveys.Survey.call_table.Goals.{then-is_some, else-is_some}
 
 pub loop-slot-init : goal.loop-slot-init
-loop-slot-init c = (calls_none c.args.store.now _, refl)
+loop-slot-init c = (calls_none c.args.self.now.store.now _, refl)
 
 pub loop-slot-preserved : goal.loop-slot-preserved
 loop-slot-preserved c =
-    let store = c.args.store.now in
+    let store = c.args.self.now.store.now in
     let i = c.loop-slot.slot in
     let size = c.loop-slot.invariant.1 in
     let inside = c.loop-slot-test.true in
@@ -19,7 +19,7 @@ loop-slot-preserved c =
       | then-is_some w ↦
           let found = some_is c.name_at.result (sym c.is_some.ensures ∙ w.if-is_some.true) in
           let named = sym c.name_at.ensures.value ∙ found.1 in
-          let of = c.requires i found.0 w.index-findings-slot.result inside named in (
+          let of = c.requires i found.0 c.finding-item.result inside named in (
             subst (λ (calls : List ℕ). CallsTo store calls (i + 1)) (sym w.calls-is) (calls_more store c.loop-slot.calls i _ _ found.0 (omega arith) named of.size (w.entered_from.ensures.value found.0 of) c.loop-slot.invariant.0),
             ap length w.calls-is ∙ length-set _ _ _ ∙ size,
           )

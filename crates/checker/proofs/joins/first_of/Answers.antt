@@ -1,5 +1,0 @@
-use Rattle.checker.proofs.Judging.{judges_more}
-use Rattle.checker.proofs.joins.first_of.Goals as goal
-
-pub loop-slot-preserved : goal.loop-slot-preserved
-loop-slot-preserved c = judges_more c.args.store.now c.loop-slot.slot _ _ _ c.loop-slot.invariant c.first_at.ensures.value c.earlier-best.ensures.value
