@@ -6,6 +6,7 @@
 ghost use Rattle.std.specs.Prelude.{◌≤◌, length};
 
 use awl::bytes::tail;
+use lines::Lines;
 use reader::blocks::line_at;
 use reports::shown::shown;
 use std::alloc::{AllocError, Global};
@@ -23,14 +24,11 @@ fn main(rt: HostRuntime) -> anyhow::Result<()> {
 // One line for each case.
 fn answers(heap: Global, input: &[u8]) -> Result<String, AllocError> {
     let mut out = String::new(heap);
-    let mut at = 0;
-    while at < input.len() {
-        let head = line_at(input, at);
-        at += head.len() + 1;
-        let rest = tail(input, at);
-        let size = case_size(rest);
-        out.push_str(answer(heap, head, &rest[0..size])?.as_str())?;
-        at += size;
+    let mut lines = Lines::of(input);
+    while let Some(head) = lines.next() {
+        let (file, behind) = lines.rest().split_at(case_size(lines.rest()));
+        out.push_str(answer(heap, head, file)?.as_str())?;
+        lines = Lines::of(behind);
     }
     Ok(out)
 }
@@ -47,9 +45,13 @@ fn answer(heap: Global, head: &[u8], file: &[u8]) -> Result<String, AllocError> 
 fn case_size(rest: &[u8]) -> usize
     ensures bound { result ≤ length rest.now }
 {
-    let mut at = 0;
-    while at < rest.len() && rest[at] != b'=' {
-        at += line_at(rest, at).len() + 1;
+    let mut lines = Lines::of(rest);
+    let mut behind = rest;
+    while let Some(line) = lines.next() {
+        if line.first() == Some(&b'=') {
+            break;
+        }
+        behind = lines.rest();
     }
-    at.min(rest.len())
+    rest.len().saturating_sub(behind.len())
 }

@@ -4,4 +4,6 @@
 #[cfg(test)]
 mod limits;
 #[cfg(test)]
+mod samples;
+#[cfg(test)]
 mod tables;
