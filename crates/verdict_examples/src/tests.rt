@@ -140,8 +140,8 @@ fn fails(heap: Global, file: &str, page: &str) -> Result<bool, AllocError> {
 
 // Whether that is so for each pair of a file and a page.
 fn all_fail(heap: Global, pairs: &[(&str, &str)]) -> Result<bool, AllocError> {
-    for i in 0..pairs.len() {
-        if !fails(heap, pairs[i].0, pairs[i].1)? {
+    for (file, page) in pairs {
+        if !fails(heap, file, page)? {
             return Ok(false);
         }
     }
