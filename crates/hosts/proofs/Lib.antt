@@ -1,3 +1,3 @@
-pub mod Cuts
-pub mod Hexes
+mod Hexes
+mod Forming
 pub mod Shows

@@ -2,7 +2,7 @@
 use Rattle.std.proofs.Common.{◌≡◌, ℕ, zero, suc, ◌+◌, ◌-◌, ◌<◌, ◌≤◌, List, [], ◌∷◌, length, drop, sym, refl, ap, ◌∙◌, inl, inr, add-one, arith}
 use Rattle.std.proofs.lemmas.List.{drop_all, drop_more}
 use Rattle.std.proofs.lemmas.Bool.{cases_lt, cond-false, cond-true, le-ltb, lt-ltb}
-use Rattle.hosts.specs.declared.lines.Frame.{Frame}
+use Rattle.hosts.specs.declared.frames.Frame.{Frame}
 use Rattle.hosts.specs.Feeds.{Standing, frame_at, taken_from, fed, shown, zeros}
 
 -- a feed stands at a frame, with these ahead, or past the last frame

@@ -1,20 +1,15 @@
 -- What a bench means, and what its own calls make of it. Assumes nothing.
-use Rattle.std.specs.Prelude.{ℕ, Bool, List, nat_lt}
+use Rattle.std.specs.Prelude.{ℕ, Bool, List}
 use Rattle.hosts.specs.declared.bench.Bench.{Bench}
-use Rattle.hosts.specs.Meaning.{Meaning, below, placed}
+use Rattle.hosts.specs.Meaning.{Meaning, placed, image_of}
 
 -- A bench of these inputs, elapsed time and outputs: 128 bytes wide, and it takes every one of them.
 abbrev pub bench_of : List ℕ → ℕ → List ℕ → Meaning
-bench_of inputs elapsed outputs = record {
-  inputs = below 128 inputs;
-  elapsed = elapsed;
-  taken = λ n. nat_lt n 128;
-  outputs = below 128 outputs;
-}
+bench_of inputs elapsed outputs = image_of 128 inputs elapsed outputs
 
 -- What a bench means.
 abbrev pub bench_meaning : Bench → Meaning
-bench_meaning s = bench_of s.inputs s.elapsed s.outputs
+bench_meaning s = bench_of s.image.inputs s.image.elapsed s.image.outputs
 
 -- The same host, with d milliseconds elapsed.
 abbrev pub with_elapsed : Meaning → ℕ → Meaning

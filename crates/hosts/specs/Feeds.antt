@@ -1,22 +1,17 @@
 -- What a feed shows, from its first moment on and after each advance. Assumes nothing.
 use Rattle.std.specs.Prelude.{ℕ, zero, suc, ◌-◌, cond, List, [], ◌∷◌, length, drop, replicate, vec_items, nat_lt, slice_index_or}
 use Rattle.hosts.specs.declared.feed.Feed.{Feed}
-use Rattle.hosts.specs.declared.lines.Frame.{Frame}
+use Rattle.hosts.specs.declared.frames.Frame.{Frame}
 use Rattle.hosts.specs.Frames.{frames}
-use Rattle.hosts.specs.Meaning.{Meaning, below}
+use Rattle.hosts.specs.Meaning.{Meaning, image_of}
 
 -- A feed of these inputs, elapsed time and outputs: four bytes wide, and it takes every one of them.
 abbrev pub feed_of : List ℕ → ℕ → List ℕ → Meaning
-feed_of inputs elapsed outputs = record {
-  inputs = below 4 inputs;
-  elapsed = elapsed;
-  taken = λ n. nat_lt n 4;
-  outputs = below 4 outputs;
-}
+feed_of inputs elapsed outputs = image_of 4 inputs elapsed outputs
 
 -- What a feed means.
 abbrev pub feed_meaning : Feed → Meaning
-feed_meaning s = feed_of s.inputs s.elapsed s.outputs
+feed_meaning s = feed_of s.image.inputs s.image.elapsed s.image.outputs
 
 -- Where a feed stands: the frames still ahead, and the time and inputs that it shows.
 pub record Standing : Type 0 where
@@ -26,7 +21,7 @@ pub record Standing : Type 0 where
 
 -- The frames ahead are those of the lines that it has not read yet.
 abbrev pub standing : Feed → Standing
-standing s = record { ahead = frames (drop s.at (vec_items s.text)); elapsed = s.elapsed; inputs = s.inputs }
+standing s = record { ahead = frames (drop s.at (vec_items s.text)); elapsed = s.image.elapsed; inputs = s.image.inputs }
 
 -- Four bytes of 0.
 abbrev pub zeros : List ℕ

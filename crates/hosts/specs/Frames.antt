@@ -1,29 +1,8 @@
 -- The frames that a text of frame lines holds, and which texts are accepted. Assumes nothing.
-use Rattle.std.specs.Prelude.{ℕ, zero, suc, ◌+◌, ◌-◌, ◌*◌, Bool, true, cond, ◌&&◌, ◌||◌, List, [], ◌∷◌, map, length, take, drop, ◌==◌, nat_le, slice_index}
-use Rattle.hosts.specs.declared.lines.Frame.{Frame}
-
--- One more byte in front of the first line.
-abbrev pub longer : ℕ → List (List ℕ) → List (List ℕ)
-longer c [] = (c ∷ []) ∷ []
-longer c (l ∷ ls) = (c ∷ l) ∷ ls
-
--- A line ends at byte 10, which the last line may lack; after a byte 10 that ends the text there is no further line.
-abbrev pub lines : List ℕ → List (List ℕ)
-lines [] = []
-lines (c ∷ cs) = cond (c == 10) ([] ∷ lines cs) (longer c (lines cs))
-
--- The first line has so many bytes: those before the first byte 10, or all where there is none.
-abbrev pub line_length : List ℕ → ℕ
-line_length [] = 0
-line_length (c ∷ cs) = cond (c == 10) 0 (suc (line_length cs))
-
--- The first line, without the byte 10 that ends it.
-abbrev pub first_line : List ℕ → List ℕ
-first_line text = take (line_length text) text
-
--- What stands after the first line and the byte 10 that ends it.
-abbrev pub after_line : List ℕ → List ℕ
-after_line text = drop (line_length text + 1) text
+use Rattle.std.specs.Prelude.{ℕ, zero, suc, ◌+◌, ◌-◌, ◌*◌, Bool, true, cond, ◌&&◌, ◌||◌, List, [], ◌∷◌, map, length, ◌==◌, nat_le, slice_index}
+use Rattle.std.specs.List.{list_all}
+use Rattle.lines.specs.Lines.{lines_of}
+use Rattle.hosts.specs.declared.frames.Frame.{Frame}
 
 -- The digits 0 to 9.
 abbrev pub is_decimal : ℕ → Bool
@@ -64,13 +43,8 @@ frame_of line = record {
 
 -- A text's frames, line by line.
 abbrev pub frames : List ℕ → List Frame
-frames text = map frame_of (lines text)
-
--- Each of these lines is a frame line.
-abbrev pub all_formed : List (List ℕ) → Bool
-all_formed [] = true
-all_formed (l ∷ ls) = well_formed l && all_formed ls
+frames text = map frame_of (lines_of text)
 
 -- A text is accepted if it has a line, and each of its lines is a frame line.
 abbrev pub accepted : List ℕ → Bool
-accepted text = nat_le 1 (length (lines text)) && all_formed (lines text)
+accepted text = nat_le 1 (length (lines_of text)) && list_all well_formed (lines_of text)

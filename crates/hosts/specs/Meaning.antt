@@ -40,3 +40,12 @@ pub record Advanced (old new : Meaning) : Type 0 where
 -- The bytes of a row below a width, and 0 from there on.
 abbrev pub below : ℕ → List ℕ → ℕ → ℕ
 below width row n = cond (nat_lt n width) (slice_index row n) 0
+
+-- A host of so many bytes each way, which takes every one of them.
+abbrev pub image_of : ℕ → List ℕ → ℕ → List ℕ → Meaning
+image_of width inputs elapsed outputs = record {
+  inputs = below width inputs;
+  elapsed = elapsed;
+  taken = λ n. nat_lt n width;
+  outputs = below width outputs;
+}

@@ -6,15 +6,14 @@ ghost use Rattle.hosts.specs.Benches.{bench_of, bench_meaning};
 ghost use Rattle.std.proofs.Common.{rules};
 
 use crate::Host;
+use crate::image::Image;
 
 mod hand;
 
 // 128 bytes each way; it takes every output byte.
 #[derive(Drop)]
 pub struct Bench {
-    inputs: [u8; 128],
-    elapsed: u32,
-    outputs: [u8; 128],
+    image: Image<128>,
 }
 
 impl Bench {
@@ -23,9 +22,11 @@ impl Bench {
         ensures value { bench_meaning result ≡ bench_of inputs 0 outputs }
     {
         Bench {
-            inputs,
-            elapsed: 0,
-            outputs,
+            image: Image {
+                inputs,
+                elapsed: 0,
+                outputs,
+            },
         }
     }
 }
@@ -48,25 +49,23 @@ impl Host for Bench {
     }
 
     fn input(&self, n: u8) -> u8 {
-        if n < 128 { self.inputs[n as usize] } else { 0 }
+        self.image.input(n)
     }
 
     fn elapsed(&self) -> u32 {
-        self.elapsed
+        self.image.elapsed
     }
 
     fn takes(&self, n: u8) -> bool {
-        n < Self::W
+        self.image.takes(n)
     }
 
     fn output(&self, n: u8) -> u8 {
-        if n < 128 { self.outputs[n as usize] } else { 0 }
+        self.image.output(n)
     }
 
     fn give(&mut self, n: u8, b: u8) {
-        if n < 128 {
-            self.outputs[n as usize] = b;
-        }
+        self.image.give(n, b);
     }
 
     // `own`: nothing changes.

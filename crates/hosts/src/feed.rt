@@ -1,13 +1,13 @@
 // The feed: a host whose inputs and elapsed time come from a text of frame lines. It knows nothing of other hosts.
 
-ghost use Rattle.std.specs.Prelude.{◌≡◌, ℕ, ◌+◌, List, is_ok, IfOk, IfErr};
-ghost use Rattle.hosts.specs.declared.lines.Frame.{Frame};
-ghost use Rattle.hosts.specs.Meaning.{Advanced, given};
-ghost use Rattle.hosts.specs.Frames.{accepted, frames};
-ghost use Rattle.hosts.specs.Feeds.{feed_of, feed_meaning, standing, zeros, fed, shown};
-ghost use Rattle.std.proofs.Common.{rules};
+ghost use Rattle.std.specs.Prelude.{◌≡◌, ℕ, ◌+◌, true, List, drop, vec_items, is_ok, IfOk, IfErr};
+ghost use Rattle.std.specs.List.{list_all};
+ghost use Rattle.lines.specs.Lines.{lines_of};
+ghost use Rattle.hosts.specs.declared.frames.Frame.{Frame};
+ghost use Rattle.hosts.specs.Frames.{accepted, well_formed, frames};
 
-use crate::{Host, lines};
+use crate::image::Image;
+use crate::{Host, frames};
 
 mod taking;
 
@@ -16,9 +16,8 @@ mod taking;
 pub struct Feed {
     text: Vec<u8>,
     at: usize,
-    elapsed: u32,
-    inputs: [u8; 4],
-    outputs: [u8; 4],
+    image: Image<4>,
+    ghost formed: { list_all well_formed (lines_of (drop at (vec_items text))) ≡ true },
 }
 
 // Refusal 9: a line that is no frame line, or no line at all. The text is handed back.
@@ -28,6 +27,8 @@ pub struct FrameFault {
 }
 
 impl Feed {
+    ghost use Rattle.hosts.specs.Feeds.{feed_of, feed_meaning, standing, zeros, shown};
+
     // A feed over these frame lines, with every frame ahead; inputs, outputs and elapsed time are 0. A text that is not
     // accepted is refused, and handed back as it was.
     pub fn new(text: Vec<u8>) -> Result<Feed, FrameFault>
@@ -35,13 +36,15 @@ impl Feed {
         ensures made { IfOk result (λ f. (standing f ≡ shown (frames text.items) 0) × (feed_meaning f ≡ feed_of zeros 0 zeros)) }
         ensures refused { IfErr result (λ e. e.text ≡ text) }
     {
-        if lines::accepted(text.as_slice()) {
+        if frames::accepted(text.as_slice()) {
             Ok(Feed {
                 text,
                 at: 0,
-                elapsed: 0,
-                inputs: [0; 4],
-                outputs: [0; 4],
+                image: Image {
+                    inputs: [0; 4],
+                    elapsed: 0,
+                    outputs: [0; 4],
+                },
             })
         } else {
             Err(FrameFault { text })
@@ -50,6 +53,10 @@ impl Feed {
 }
 
 impl Host for Feed {
+    ghost use Rattle.hosts.specs.Meaning.{Advanced, given};
+    ghost use Rattle.hosts.specs.Feeds.{feed_meaning, standing, fed, shown};
+    ghost use Rattle.std.proofs.Common.{rules};
+
     const W: u8 = 4;
 
     ghost width = { 4 };
@@ -69,19 +76,19 @@ impl Host for Feed {
     }
 
     fn input(&self, n: u8) -> u8 {
-        if n < 4 { self.inputs[n as usize] } else { 0 }
+        self.image.input(n)
     }
 
     fn elapsed(&self) -> u32 {
-        self.elapsed
+        self.image.elapsed
     }
 
     fn takes(&self, n: u8) -> bool {
-        n < Self::W
+        self.image.takes(n)
     }
 
     fn output(&self, n: u8) -> u8 {
-        if n < 4 { self.outputs[n as usize] } else { 0 }
+        self.image.output(n)
     }
 
     // `own`: no frame is lost by giving.
@@ -89,9 +96,7 @@ impl Host for Feed {
         ensures after { feed_meaning self.new ≡ given (feed_meaning self.old) n b }
         ensures own { standing self.new ≡ standing self.old }
     {
-        if n < 4 {
-            self.outputs[n as usize] = b;
-        }
+        self.image.give(n, b);
     }
 
     // `own`: the next frame is taken. `count`: where k advances over any frames had led, k + 1 lead now.

@@ -9,7 +9,8 @@ ghost use Rattle.hosts.specs.Feeds.{standing, fed};
 
 pub mod bench;
 pub mod feed;
-pub mod lines;
+pub mod frames;
+mod image;
 pub mod mask;
 
 // A host answers questions on its bytes, is given outputs, and advances to the next inputs. Nothing here refuses: a byte
@@ -102,10 +103,7 @@ mod tests {
     }
 
     fn feed(heap: Global, text: &[u8]) -> Result<Feed, Fail> {
-        match Feed::new(text.to_vec(heap)?) {
-            Ok(feed) => Ok(feed),
-            Err(_) => Err(Fail::new("refused")),
-        }
+        Feed::new(text.to_vec(heap)?).map_err(|_| Fail::new("refused"))
     }
 
     #[test]

@@ -3,6 +3,7 @@
 ghost use Rattle.std.specs.Prelude.{◌≡◌, nat_lt};
 ghost use Rattle.hosts.specs.Benches.{bench_meaning, with_elapsed, with_input};
 
+use crate::Host;
 use crate::bench::Bench;
 
 impl Bench {
@@ -10,7 +11,7 @@ impl Bench {
     pub fn set_elapsed(&mut self, d: u32)
         ensures after { bench_meaning self.new ≡ with_elapsed (bench_meaning self.old) d }
     {
-        self.elapsed = d;
+        self.image.elapsed = d;
     }
 
     // Sets input byte n; from 128 on it says no, and nothing changed.
@@ -18,10 +19,10 @@ impl Bench {
         ensures value { result ≡ nat_lt n 128 }
         ensures after { bench_meaning self.new ≡ with_input result (bench_meaning self.old) n b }
     {
-        if n >= 128 {
-            return false;
+        let granted = n < Self::W;
+        if granted {
+            self.image.inputs[n as usize] = b;
         }
-        self.inputs[n as usize] = b;
-        true
+        granted
     }
 }

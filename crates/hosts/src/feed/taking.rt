@@ -4,24 +4,23 @@ ghost use Rattle.std.specs.Prelude.{◌≡◌};
 ghost use Rattle.hosts.specs.Feeds.{standing, fed};
 
 use crate::feed::Feed;
-use crate::lines;
+use crate::frames::{Taken, take_frame};
 
 impl Feed {
     // Takes the next frame; past the last the inputs stay, and no time elapses.
     pub(crate) fn take_next(&mut self)
         ensures after { standing self.new ≡ fed (standing self.old) }
-        ensures same { self.new.outputs ≡ self.old.outputs }
+        ensures same { self.new.image.outputs ≡ self.old.image.outputs }
     {
-        match lines::take_frame(self.text.as_slice(), self.at) {
-            Some(taken) => {
-                let frame = taken.frame;
+        match take_frame(self.text.as_slice(), self.at) {
+            Some(Taken { frame, next }) => {
                 let inputs = frame.inputs;
-                self.inputs = inputs;
-                self.elapsed = frame.elapsed;
-                self.at = taken.next;
+                self.image.inputs = inputs;
+                self.image.elapsed = frame.elapsed;
+                self.at = next;
             }
             None => {
-                self.elapsed = 0;
+                self.image.elapsed = 0;
             }
         }
     }
