@@ -34,7 +34,7 @@ impl Bench {
 impl Host for Bench {
     const W: u8 = 128;
 
-    ghost width = { 128 };
+    ghost W = { 128 };
 
     ghost meaning = { bench_meaning };
 

@@ -59,7 +59,7 @@ impl Host for Feed {
 
     const W: u8 = 4;
 
-    ghost width = { 4 };
+    ghost W = { 4 };
 
     ghost meaning = { feed_meaning };
 

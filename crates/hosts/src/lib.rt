@@ -2,7 +2,7 @@
 // It knows nothing of statements, blocks or machines.
 #![tactic(auto)]
 
-ghost use Rattle.std.specs.Prelude.{◌≡◌, ℕ};
+ghost use Rattle.std.specs.Prelude.{◌≡◌, ℕ, true};
 ghost use Rattle.hosts.specs.Meaning.{Meaning, Ranged, Beyond, Advanced, given};
 ghost use Rattle.hosts.specs.Benches.{bench_meaning, with_elapsed};
 ghost use Rattle.hosts.specs.Feeds.{standing, fed};
@@ -16,10 +16,10 @@ pub mod mask;
 // A host answers questions on its bytes, is given outputs, and advances to the next inputs. Nothing here refuses: a byte
 // from the width on is answered with 0 or no, and a byte that is not taken is given in vain.
 pub trait Host {
-    // The number of bytes, 1 to 128. `width` is the same number for contracts, which cannot name a constant of a bound.
+    // The number of bytes, 1 to 128; for contracts too.
     const W: u8;
 
-    ghost width: { ℕ };
+    ghost W: { ℕ };
 
     ghost meaning: { Self → Meaning };
 
@@ -30,7 +30,7 @@ pub trait Host {
 
     // The width W.
     fn width(&self) -> u8
-        ensures value { result ≡ width };
+        ensures value { result ≡ W };
 
     // Input byte n.
     fn input(&self, n: u8) -> u8
@@ -58,9 +58,9 @@ pub trait Host {
         ensures same { Advanced (meaning self.old) (meaning self.new) }
         ensures own { advances self.old self.new };
 
-    ghost ranged: { Ranged width };
+    ghost ranged: { Ranged W };
 
-    ghost beyond: { (h : Self) → Beyond width (meaning h) };
+    ghost beyond: { (h : Self) → Beyond W (meaning h) };
 }
 
 #[cfg(test)]
@@ -97,8 +97,10 @@ mod tests {
         mask.host_mut().set_elapsed(d);
     }
 
-    // Whether a host's constant is the width that it answers.
-    fn width_is_constant<H: Host>(host: &H) -> bool {
+    // A host's constant is the width that it answers.
+    fn width_is_constant<H: Host>(host: &H) -> bool
+        ensures value { result ≡ true }
+    {
         H::W == host.width()
     }
 

@@ -36,7 +36,7 @@ impl<Under: Host> Mask<Under> {
 impl<H: Host> Host for Mask<H> {
     const W: u8 = H::W;
 
-    ghost width = { H.Host.width };
+    ghost W = { H.W };
 
     ghost meaning = { λ s. masked s.bits (H.Host.meaning s.host) };
 
