@@ -1,6 +1,5 @@
 -- The names of the operations are told apart, and no other bytes are one. Assumes nothing.
-use Rattle.std.proofs.Common.{◌≡◌, ℕ, Bool, true, false, cond, List, [], ◌∷◌, Some, None, IsUtf8, Option, sym, refl, subst, arith, MatchOption}
-use lib.Utf8.{encode, encodes, scalars}
+use Rattle.std.proofs.Common.{◌≡◌, ℕ, Bool, true, false, cond, List, [], ◌∷◌, Some, None, Option, sym, refl, subst, arith, MatchOption}
 use Rattle.std.specs.Str.{bytes_eq}
 use Rattle.std.proofs.lemmas.Slice.Eq.{bytes_eq-Decides}
 use Rattle.awl.specs.declared.statements.Arithmetic.TheVariants as arithmetic
@@ -15,50 +14,49 @@ use Rattle.awl.specs.declared.statements.Operation.{Operation}
 use Rattle.awl.specs.declared.statements.Operation.TheVariants.{Combine, Open, Close, Set, Reset, Assign, Load, LoadCoded, Transfer, Start, Count, Calculate, Compare, Jump, End, ChooseData, Stop}
 use Rattle.lexer.specs.Names.{name_of, operations, spelled_among, operation_named}
 
--- each operation is the first with its name, and its name is text: computed for each
-found_text : (o : Operation) → (spelled_among operations (name_of o) ≡ Some o) × ((scalars (name_of o) ≡ true) × (encodes (name_of o) ≡ name_of o))
-unfolding encode
-found_text (Combine combine.And) = (refl, (refl, refl))
-found_text (Combine combine.AndNot) = (refl, (refl, refl))
-found_text (Combine combine.Or) = (refl, (refl, refl))
-found_text (Combine combine.OrNot) = (refl, (refl, refl))
-found_text (Open bracket.And) = (refl, (refl, refl))
-found_text (Open bracket.Or) = (refl, (refl, refl))
-found_text Close = (refl, (refl, refl))
-found_text Set = (refl, (refl, refl))
-found_text Reset = (refl, (refl, refl))
-found_text Assign = (refl, (refl, refl))
-found_text Load = (refl, (refl, refl))
-found_text LoadCoded = (refl, (refl, refl))
-found_text Transfer = (refl, (refl, refl))
-found_text (Start timer.Pulse) = (refl, (refl, refl))
-found_text (Start timer.ExtendedPulse) = (refl, (refl, refl))
-found_text (Start timer.OnDelay) = (refl, (refl, refl))
-found_text (Start timer.StoredOnDelay) = (refl, (refl, refl))
-found_text (Count direction.Up) = (refl, (refl, refl))
-found_text (Count direction.Down) = (refl, (refl, refl))
-found_text (Calculate arithmetic.Add) = (refl, (refl, refl))
-found_text (Calculate arithmetic.Subtract) = (refl, (refl, refl))
-found_text (Calculate arithmetic.Multiply) = (refl, (refl, refl))
-found_text (Calculate arithmetic.Divide) = (refl, (refl, refl))
-found_text (Compare comparison.Equal) = (refl, (refl, refl))
-found_text (Compare comparison.Unequal) = (refl, (refl, refl))
-found_text (Compare comparison.Greater) = (refl, (refl, refl))
-found_text (Compare comparison.GreaterOrEqual) = (refl, (refl, refl))
-found_text (Compare comparison.Less) = (refl, (refl, refl))
-found_text (Compare comparison.LessOrEqual) = (refl, (refl, refl))
-found_text (Jump jump.Always) = (refl, (refl, refl))
-found_text (Jump jump.Rlo) = (refl, (refl, refl))
-found_text (Jump jump.Zero) = (refl, (refl, refl))
-found_text (Jump jump.NonZero) = (refl, (refl, refl))
-found_text (Jump jump.Plus) = (refl, (refl, refl))
-found_text (Jump jump.Minus) = (refl, (refl, refl))
-found_text (Jump jump.Overflow) = (refl, (refl, refl))
-found_text (End end.End) = (refl, (refl, refl))
-found_text (End end.Always) = (refl, (refl, refl))
-found_text (End end.Rlo) = (refl, (refl, refl))
-found_text ChooseData = (refl, (refl, refl))
-found_text Stop = (refl, (refl, refl))
+-- each operation is the first with its name: computed for each
+found_name : (o : Operation) → spelled_among operations (name_of o) ≡ Some o
+found_name (Combine combine.And) = refl
+found_name (Combine combine.AndNot) = refl
+found_name (Combine combine.Or) = refl
+found_name (Combine combine.OrNot) = refl
+found_name (Open bracket.And) = refl
+found_name (Open bracket.Or) = refl
+found_name Close = refl
+found_name Set = refl
+found_name Reset = refl
+found_name Assign = refl
+found_name Load = refl
+found_name LoadCoded = refl
+found_name Transfer = refl
+found_name (Start timer.Pulse) = refl
+found_name (Start timer.ExtendedPulse) = refl
+found_name (Start timer.OnDelay) = refl
+found_name (Start timer.StoredOnDelay) = refl
+found_name (Count direction.Up) = refl
+found_name (Count direction.Down) = refl
+found_name (Calculate arithmetic.Add) = refl
+found_name (Calculate arithmetic.Subtract) = refl
+found_name (Calculate arithmetic.Multiply) = refl
+found_name (Calculate arithmetic.Divide) = refl
+found_name (Compare comparison.Equal) = refl
+found_name (Compare comparison.Unequal) = refl
+found_name (Compare comparison.Greater) = refl
+found_name (Compare comparison.GreaterOrEqual) = refl
+found_name (Compare comparison.Less) = refl
+found_name (Compare comparison.LessOrEqual) = refl
+found_name (Jump jump.Always) = refl
+found_name (Jump jump.Rlo) = refl
+found_name (Jump jump.Zero) = refl
+found_name (Jump jump.NonZero) = refl
+found_name (Jump jump.Plus) = refl
+found_name (Jump jump.Minus) = refl
+found_name (Jump jump.Overflow) = refl
+found_name (End end.End) = refl
+found_name (End end.Always) = refl
+found_name (End end.Rlo) = refl
+found_name ChooseData = refl
+found_name Stop = refl
 
 -- what is found among some operations has the name
 named_so : (os : List Operation) (bs : List ℕ) (o : Operation) → spelled_among os bs ≡ Some o → name_of o ≡ bs
@@ -77,8 +75,4 @@ none_found (Some o) h = absurd (h o refl)
 pub known_name : (bs : List ℕ) (r : Option Operation) → MatchOption r ((o : Operation) → name_of o ≡ bs → ⊥) (λ o. name_of o ≡ bs) → r ≡ operation_named bs
 unfolding operation_named
 known_name bs None h = none_found (spelled_among operations bs) (λ o e. h o (named_so operations bs o e))
-known_name bs (Some o) h = sym (subst (λ (b : List ℕ). spelled_among operations b ≡ Some o) h (found_text o).0)
-
--- bytes that are no text are no name
-pub no_text_no_name : (bs : List ℕ) → (IsUtf8 bs → ⊥) → (o : Operation) → name_of o ≡ bs → ⊥
-no_text_no_name bs h o e = h (subst IsUtf8 e (name_of o, (found_text o).1))
+known_name bs (Some o) h = sym (subst (λ (b : List ℕ). spelled_among operations b ≡ Some o) h (found_name o))

@@ -7,64 +7,53 @@ use awl::statements::{
     Arithmetic, BlockEnd, Bracket, Combination, Comparison, Direction, JumpCondition, Operation,
     TimerKind,
 };
-use std::str::from_utf8;
 
 // The operation with the name that the bytes spell, or none.
-#[tactic(auto, using(crate::proofs::Naming::no_text_no_name))]
 pub fn operation(word: &[u8]) -> Option<Operation>
     ensures value { MatchOption result ((o : Operation) → name_of o ≢ word.now) (λ o. name_of o ≡ word.now) }
 {
-    let Ok(name) = from_utf8(word) else {
-        return None;
-    };
-    named(name)
-}
-
-fn named(name: &str) -> Option<Operation>
-    ensures value { MatchOption result ((o : Operation) → name_of o ≢ name.now) (λ o. name_of o ≡ name.now) }
-{
-    match name {
-        "U" => Some(Operation::Combine(Combination::And)),
-        "UN" => Some(Operation::Combine(Combination::AndNot)),
-        "O" => Some(Operation::Combine(Combination::Or)),
-        "ON" => Some(Operation::Combine(Combination::OrNot)),
-        "U(" => Some(Operation::Open(Bracket::And)),
-        "O(" => Some(Operation::Open(Bracket::Or)),
-        ")" => Some(Operation::Close),
-        "S" => Some(Operation::Set),
-        "R" => Some(Operation::Reset),
-        "=" => Some(Operation::Assign),
-        "L" => Some(Operation::Load),
-        "LC" => Some(Operation::LoadCoded),
-        "T" => Some(Operation::Transfer),
-        "SI" => Some(Operation::Start(TimerKind::Pulse)),
-        "SV" => Some(Operation::Start(TimerKind::ExtendedPulse)),
-        "SE" => Some(Operation::Start(TimerKind::OnDelay)),
-        "SS" => Some(Operation::Start(TimerKind::StoredOnDelay)),
-        "ZV" => Some(Operation::Count(Direction::Up)),
-        "ZR" => Some(Operation::Count(Direction::Down)),
-        "+FD" => Some(Operation::Calculate(Arithmetic::Add)),
-        "-FD" => Some(Operation::Calculate(Arithmetic::Subtract)),
-        "*FD" => Some(Operation::Calculate(Arithmetic::Multiply)),
-        "/FD" => Some(Operation::Calculate(Arithmetic::Divide)),
-        "!=FD" => Some(Operation::Compare(Comparison::Equal)),
-        "><FD" => Some(Operation::Compare(Comparison::Unequal)),
-        ">FD" => Some(Operation::Compare(Comparison::Greater)),
-        ">=FD" => Some(Operation::Compare(Comparison::GreaterOrEqual)),
-        "<FD" => Some(Operation::Compare(Comparison::Less)),
-        "<=FD" => Some(Operation::Compare(Comparison::LessOrEqual)),
-        "SPA" => Some(Operation::Jump(JumpCondition::Always)),
-        "SPB" => Some(Operation::Jump(JumpCondition::Rlo)),
-        "SPZ" => Some(Operation::Jump(JumpCondition::Zero)),
-        "SPN" => Some(Operation::Jump(JumpCondition::NonZero)),
-        "SPP" => Some(Operation::Jump(JumpCondition::Plus)),
-        "SPM" => Some(Operation::Jump(JumpCondition::Minus)),
-        "SPO" => Some(Operation::Jump(JumpCondition::Overflow)),
-        "BE" => Some(Operation::End(BlockEnd::End)),
-        "BEA" => Some(Operation::End(BlockEnd::Always)),
-        "BEB" => Some(Operation::End(BlockEnd::Rlo)),
-        "A" => Some(Operation::ChooseData),
-        "STS" => Some(Operation::Stop),
+    match word {
+        b"U" => Some(Operation::Combine(Combination::And)),
+        b"UN" => Some(Operation::Combine(Combination::AndNot)),
+        b"O" => Some(Operation::Combine(Combination::Or)),
+        b"ON" => Some(Operation::Combine(Combination::OrNot)),
+        b"U(" => Some(Operation::Open(Bracket::And)),
+        b"O(" => Some(Operation::Open(Bracket::Or)),
+        b")" => Some(Operation::Close),
+        b"S" => Some(Operation::Set),
+        b"R" => Some(Operation::Reset),
+        b"=" => Some(Operation::Assign),
+        b"L" => Some(Operation::Load),
+        b"LC" => Some(Operation::LoadCoded),
+        b"T" => Some(Operation::Transfer),
+        b"SI" => Some(Operation::Start(TimerKind::Pulse)),
+        b"SV" => Some(Operation::Start(TimerKind::ExtendedPulse)),
+        b"SE" => Some(Operation::Start(TimerKind::OnDelay)),
+        b"SS" => Some(Operation::Start(TimerKind::StoredOnDelay)),
+        b"ZV" => Some(Operation::Count(Direction::Up)),
+        b"ZR" => Some(Operation::Count(Direction::Down)),
+        b"+FD" => Some(Operation::Calculate(Arithmetic::Add)),
+        b"-FD" => Some(Operation::Calculate(Arithmetic::Subtract)),
+        b"*FD" => Some(Operation::Calculate(Arithmetic::Multiply)),
+        b"/FD" => Some(Operation::Calculate(Arithmetic::Divide)),
+        b"!=FD" => Some(Operation::Compare(Comparison::Equal)),
+        b"><FD" => Some(Operation::Compare(Comparison::Unequal)),
+        b">FD" => Some(Operation::Compare(Comparison::Greater)),
+        b">=FD" => Some(Operation::Compare(Comparison::GreaterOrEqual)),
+        b"<FD" => Some(Operation::Compare(Comparison::Less)),
+        b"<=FD" => Some(Operation::Compare(Comparison::LessOrEqual)),
+        b"SPA" => Some(Operation::Jump(JumpCondition::Always)),
+        b"SPB" => Some(Operation::Jump(JumpCondition::Rlo)),
+        b"SPZ" => Some(Operation::Jump(JumpCondition::Zero)),
+        b"SPN" => Some(Operation::Jump(JumpCondition::NonZero)),
+        b"SPP" => Some(Operation::Jump(JumpCondition::Plus)),
+        b"SPM" => Some(Operation::Jump(JumpCondition::Minus)),
+        b"SPO" => Some(Operation::Jump(JumpCondition::Overflow)),
+        b"BE" => Some(Operation::End(BlockEnd::End)),
+        b"BEA" => Some(Operation::End(BlockEnd::Always)),
+        b"BEB" => Some(Operation::End(BlockEnd::Rlo)),
+        b"A" => Some(Operation::ChooseData),
+        b"STS" => Some(Operation::Stop),
         _ => None,
     }
 }
