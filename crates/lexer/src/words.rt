@@ -12,7 +12,7 @@ pub struct Part<'a> {
     pub column: usize,
 }
 
-// A word of the line, by what it stands for.
+// A word of the line, by what it stands for: a case for each, as the language has them, though all hold the same part.
 #[derive(Clone, Copy)]
 pub enum Word<'a> {
     Mark(Part<'a>),
