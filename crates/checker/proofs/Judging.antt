@@ -1,7 +1,9 @@
 -- The first fault of a block, of the blocks of some slots, and of a project.
-use Rattle.std.proofs.Common.{◌≡◌, ℕ, ◌+◌, ◌<◌, ◌≤◌, Bool, true, ◌⊎◌, length, MatchOption, Some, None, Ok, Err, Decides, Option, Result, sym, refl, ap, ◌∙◌, subst, ap₂, inl, inr, ⊎_elim, arith}
+use Rattle.std.proofs.Common.{◌≡◌, ℕ, ◌+◌, ◌<◌, ◌≤◌, Bool, true, false, cond, ◌⊎◌, length, MatchOption, Some, None, Ok, Err, Decides, Option, Result, sym, refl, ap, ◌∙◌, subst, ap₂, inl, inr, ⊎_elim, arith}
 use Rattle.std.proofs.lemmas.Bool.{cases_lt, cases_order, both_ways}
 use Rattle.std.specs.Option.{ok_or}
+use Rattle.std.specs.Ordering.{is_gt}
+use Rattle.std.specs.declared.cmp.Ordering.{Ordering}
 use Rattle.awl.specs.Order.{kind_rank, Before}
 use Rattle.awl.specs.declared.names.BlockKind.{BlockKind}
 use Rattle.awl.specs.declared.names.BlockKind.TheVariants.{Organisation, Program, Function}
@@ -12,13 +14,14 @@ use Rattle.store.specs.declared.store.Store.{Store}
 use Rattle.walk.proofs.Lowests.{none_some}
 use Rattle.walk.proofs.Ways.{walk_in}
 use Rattle.walk.specs.Faults.{fault_number}
+use Rattle.walk.specs.Lesser.{lesser_of}
 use Rattle.walk.specs.Places.{Lowest}
 use Rattle.walk.specs.Walk.{Fit}
 use Rattle.walk.specs.declared.faults.Fault.{Fault as FaultKind}
 use Rattle.walk.specs.declared.faults.Fault.TheVariants.{NoStart}
 use Rattle.checker.specs.Chains.{In}
 use Rattle.checker.specs.Inside.{BadAt, FirstIn, JudgesIn}
-use Rattle.checker.specs.Joins.{Reached, FirstTo, JudgesTo, FirstHere, JudgesHere, Earlier}
+use Rattle.checker.specs.Joins.{Reached, FirstTo, JudgesTo, FirstHere, JudgesHere}
 use Rattle.checker.specs.Project.{Project, project_of, Holds, flows_in, outermost, Met, at, k9}
 use Rattle.checker.specs.Verdicts.{NotAfter, Passes, First, Verdict, Judges, is_pass}
 use Rattle.checker.specs.declared.verdicts.Found.{Found}
@@ -127,31 +130,27 @@ module _ (s : Store) where
         (slot_split n i b l named);
   }
 
-  -- one slot more
-  pub judges_more : (n : ℕ) (best here r : Option Found) → JudgesTo s n best → JudgesHere s n here → Earlier best here r → JudgesTo s (n + 1) r
-  judges_more n None None r best here e =
-      subst (λ (o : Option Found). JudgesTo s (n + 1) o) (sym e)
-      (λ i b t w l named h. ⊎_elim (λ (m : i < n). best i b t w m named h) (λ (m : name_at s n ≡ Some b). here b t w m h) (slot_split n i b l named))
-  judges_more n None (Some g) r best here e =
-      subst (λ (o : Option Found). JudgesTo s (n + 1) o) (sym e) (takes n g here (λ i b t w l named h. absurd (best i b t w l named h)))
-  judges_more n (Some f) None r best here e =
-      subst (λ (o : Option Found). JudgesTo s (n + 1) o) (sym e) (keeps n f best (λ b t w named h. absurd (here b t w named h)))
-  judges_more n (Some f) (Some g) r best here (inl e) =
-      subst (λ (o : Option Found). JudgesTo s (n + 1) o) (sym e.0)
-      (takes n g here (λ i b t w l named h. before_all g.block f.block b _ _ _ _ t w e.1 (best.least i b t w l named h)))
-  judges_more n (Some f) (Some g) r best here (inr e) =
-      subst (λ (o : Option Found). JudgesTo s (n + 1) o) (sym e.0)
-      (keeps n f best (λ b t w named h.
-      let same = some_same (sym here.named ∙ named) in
-      inl (subst (λ (c : BlockName). Before f.block c) same (before_total g.block f.block other e.1))))
+  -- one slot more, by an order that puts names first
+  pub judges_more : (order : Found → Found → Ordering) → ((f g : Found) → (f.block ≡ g.block → ⊥) → Decides (is_gt (order f g)) (Before g.block f.block)) →
+      (n : ℕ) (best here : Option Found) → JudgesTo s n best → JudgesHere s n here → JudgesTo s (n + 1) (lesser_of order best here)
+  judges_more order named n None None best here = λ i b t w l at h. ⊎_elim (λ (m : i < n). best i b t w m at h) (λ (m : name_at s n ≡ Some b). here b t w m h) (slot_split n i b l at)
+  judges_more order named n None (Some g) best here = takes n g here (λ i b t w l at h. absurd (best i b t w l at h))
+  judges_more order named n (Some f) None best here = keeps n f best (λ b t w at h. absurd (here b t w at h))
+  judges_more order named n (Some f) (Some g) best here = choose (is_gt (order f g)) (named f g other)
     where
-      other : g.block ≡ f.block → ⊥
+      other : f.block ≡ g.block → ⊥
       other q =
-          let one = name_has_slot s f.block n (here.named ∙ ap Some q) in
+          let one = name_has_slot s f.block n (here.named ∙ ap Some (sym q)) in
           let two = name_has_slot s f.block best.slot best.named in
           let same = some_same (sym one ∙ two) in
           let l = best.within in
           omega arith
+
+      choose : (later : Bool) → Decides later (Before g.block f.block) → JudgesTo s (n + 1) (cond later (Some g) (Some f))
+      choose true d = takes n g here (λ i b t w l at h. before_all g.block f.block b _ _ _ _ t w (d.0 refl) (best.least i b t w l at h))
+      choose false d = keeps n f best (λ b t w at h.
+          let same = some_same (sym here.named ∙ at) in
+          inl (subst (λ (c : BlockName). Before f.block c) same (before_total g.block f.block (λ q. other (sym q)) (λ before. both_ways _ refl (d.1 before)))))
 
   module _ (reach last : ℕ) (r : Reached s reach last) (held : Holds (project_of s) outermost) (n : ℕ) where
     -- a slot whose block is not entered has nothing

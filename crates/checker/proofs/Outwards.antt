@@ -1,6 +1,6 @@
 -- The lowest fault of a statement, by its sight.
 use Rattle.std.proofs.Common.{◌≡◌, ℕ, ◌+◌, ◌-◌, ◌<◌, ◌≤◌, Bool, true, false, cond, ◌&&◌, ◌⊎◌, List, length, get_or, take, is_some, Some, None, Decides, Option, sym, refl, ap, ◌∙◌, subst, inl, inr, ⊎_elim, arith}
-use Rattle.std.proofs.lemmas.List.{length-take, get_or-take, get_or_default}
+use Rattle.std.proofs.lemmas.List.{length-take-le, get_or-take, get_or_default}
 use Rattle.std.proofs.lemmas.Bool.{and_parts, and_from, both_ways}
 use Rattle.awl.specs.declared.names.BlockName.{BlockName}
 use Rattle.walk.proofs.Lowests.{lower_lowest, lowest_like}
@@ -11,6 +11,7 @@ use Rattle.walk.specs.declared.faults.Fault.{Fault}
 use Rattle.walk.specs.declared.faults.Fault.TheVariants.{BlockNotHeld, DataNotHeld, EleventhCall}
 use Rattle.walk.specs.declared.flows.Flow.{Flow}
 use Rattle.walk.specs.declared.flows.Flow.TheVariants.{Plain, Open, Close, Jump, Branch, Call, End, MayEnd, Stop, Choose}
+use Rattle.walk.specs.declared.sights.Finding.{Finding}
 use Rattle.walk.specs.declared.sights.Sight.{Sight}
 use Rattle.checker.specs.Inside.{Outward, k2, k7, k8, BadAt, outward_of, fault_seen}
 use Rattle.checker.specs.Project.{Project, flows_in}
@@ -128,15 +129,24 @@ module _ (p : Project) (deep : Bool) (block : List Flow) (s : ℕ) where
   walked_lowest true bare x is comes at = flow-lowest (comes.0 refl) bare at x is
   walked_lowest false bare x is comes at = λ v o. both_ways _ refl (comes.1 (o.0, o.1))
 
--- a statement is one of those of a finding, and its sight is at its index
-pub sight_within : (sights : List Sight) (count i : ℕ) → i < length (take count sights) → i < count
-sight_within sights count i l = let n = length-take count sights in omega arith
+-- a finding tells one sight a statement
+pub told_count : (f : Finding) (told : List Sight) → told ≡ take f.count f.sights → length told ≡ f.count
+told_count f told are =
+    let room = f.room in
+    let few = f.few in
+    ap length are ∙ length-take-le f.count f.sights (omega arith)
 
-pub sight_here : (sights : List Sight) (count i : ℕ) (d : Sight) → i < length (take count sights) → get_or (take count sights) i d ≡ get_or sights (i + 1 - 1) unseen
-sight_here sights count i d l =
-    let n = length-take count sights in
+-- at the statement's index
+pub told_here : (f : Finding) (told : List Sight) (i : ℕ) (d : Sight) → told ≡ take f.count f.sights → i < length told → get_or told i d ≡ get_or f.sights (i + 1 - 1) unseen
+told_here f told i d are l =
+    let size = told_count f told are in
+    let room = f.room in
+    let few = f.few in
     let at : i ≡ i + 1 - 1 = omega arith in
-    get_or-take count sights i d (omega arith) ∙ get_or_default sights i d unseen (omega arith) ∙ ap (λ (j : ℕ). get_or sights j unseen) at
+    ap (λ (xs : List Sight). get_or xs i d) are
+    ∙ get_or-take f.count f.sights i d (omega arith)
+    ∙ get_or_default f.sights i d unseen (omega arith)
+    ∙ ap (λ (j : ℕ). get_or f.sights j unseen) at
 
 -- the lowest of all faults of a statement
 seen_lowest : (p : Project) (b : BlockName) (deep : Bool) (s : ℕ) (x : Sight) → Sighted (flows_in p b) s x → Lowest (fault_seen p deep x) (BadAt p b deep s)
@@ -148,10 +158,10 @@ seen_lowest p b deep s x seen =
     (lower_lowest (Meets (flows_in p b) s) (OutAt p deep (flows_in p b) s) x.fault _ seen.fault (walked_lowest p deep (flows_in p b) s x.walked x.bare x.flow seen.flow seen.walked seen.bare))
 
 -- the same by a block's finding
-pub found_lowest : (p : Project) (b : BlockName) (deep : Bool) (sights : List Sight) (count i : ℕ) (d : Sight) (o : Option Fault) →
-    Found (flows_in p b) sights count → i < length (take count sights) → o ≡ fault_seen p deep (get_or (take count sights) i d) → Lowest o (BadAt p b deep (i + 1))
-found_lowest p b deep sights count i d o of l seen =
+pub found_lowest : (p : Project) (b : BlockName) (deep : Bool) (f : Finding) (told : List Sight) (i : ℕ) (d : Sight) (o : Option Fault) →
+    Found (flows_in p b) f.sights f.count → told ≡ take f.count f.sights → i < length told → o ≡ fault_seen p deep (get_or told i d) → Lowest o (BadAt p b deep (i + 1))
+found_lowest p b deep f told i d o of are l seen =
     let size = of.size in
-    let within = sight_within sights count i l in
-    let here = subst (λ (y : Sight). Sighted (flows_in p b) (i + 1) y) (sym (sight_here sights count i d l)) (of.all (i + 1) (omega arith) (omega arith)) in
-    subst (λ (y : Option Fault). Lowest y (BadAt p b deep (i + 1))) (sym seen) (seen_lowest p b deep (i + 1) (get_or (take count sights) i d) here)
+    let count = told_count f told are in
+    let here = subst (λ (y : Sight). Sighted (flows_in p b) (i + 1) y) (sym (told_here f told i d are l)) (of.all (i + 1) (omega arith) (omega arith)) in
+    subst (λ (y : Option Fault). Lowest y (BadAt p b deep (i + 1))) (sym seen) (seen_lowest p b deep (i + 1) (get_or told i d) here)

@@ -11,10 +11,7 @@ fn walked_in(finding: &Finding) -> usize
     ensures value { result ≡ seen_in finding.now }
     ensures bound { result ≤ 255 }
 {
-    finding.sights[..finding.count]
-        .iter()
-        .filter(|sight| sight.walked)
-        .count()
+    finding.sights().iter().filter(|sight| sight.walked).count()
 }
 
 impl Survey<'_> {

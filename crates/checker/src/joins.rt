@@ -4,7 +4,7 @@ ghost use Rattle.awl.specs.declared.names.BlockName.{BlockName as Name};
 ghost use Rattle.store.specs.Held.{slot_of, name_at, blocks, data_blocks};
 ghost use Rattle.walk.specs.Walk.{Fit};
 ghost use Rattle.checker.specs.Inside.{JudgesIn, fault_seen, entered_by, outward_of};
-ghost use Rattle.checker.specs.Joins.{IsOf, FoundTo, EntersTo, CallsTo, Reach, Reached, JudgesTo, JudgesHere, Earlier};
+ghost use Rattle.checker.specs.Joins.{IsOf, FoundTo, EntersTo, CallsTo, Reach, Reached, JudgesTo, JudgesHere};
 ghost use Rattle.checker.specs.Project.{project_of, Holds, flows_in, outermost};
 ghost use Rattle.checker.specs.Verdicts.{Judges};
 
@@ -15,6 +15,7 @@ use awl::names::{BlockKind, BlockName};
 use store::store::Store;
 use walk::faults::{Fault, lower};
 use walk::flows::Flow;
+use walk::lesser::lesser;
 use walk::sights::{Finding, Sight};
 
 // OB 1, where a scan starts.
@@ -45,7 +46,7 @@ fn entered_from(store: &Store, finding: &Finding) -> SlotSet
     ensures value { (b : Name) → IsOf finding.now store.now b → EntersTo store.now b finding.now.count result }
 {
     let mut out = SlotSet::NONE;
-    for sight in finding.sights[..finding.count].iter() {
+    for sight in finding.sights() {
         out = out | entered_by(store, *sight);
     }
     out
@@ -79,7 +80,7 @@ fn first_in(store: &Store, name: BlockName, finding: &Finding, deep: bool) -> Op
     requires fit { Fit (flows_in (project_of store.now) name) }
     ensures value { JudgesIn (project_of store.now) name deep result }
 {
-    for (i, sight) in finding.sights[..finding.count].iter().enumerate() {
+    for (i, sight) in finding.sights().iter().enumerate() {
         if let Some(fault) = fault_seen(store, *sight, deep) {
             return Some(Found {
                 block: name,
@@ -89,23 +90,6 @@ fn first_in(store: &Store, name: BlockName, finding: &Finding, deep: bool) -> Op
         }
     }
     None
-}
-
-// Of two faults in different blocks, the one whose block comes first.
-fn earlier(best: Option<Found>, other: Option<Found>) -> Option<Found>
-    ensures value { Earlier best other result }
-{
-    match (best, other) {
-        (None, _) => other,
-        (Some(_), None) => best,
-        (Some(mine), Some(theirs)) => {
-            if theirs.block.precedes(mine.block) {
-                other
-            } else {
-                best
-            }
-        }
-    }
 }
 
 impl Survey<'_> {
@@ -184,7 +168,8 @@ impl Join<'_> {
     {
         let mut best = None;
         for (slot, finding) in self.survey.findings.iter().enumerate() {
-            best = earlier(best, self.first_at(slot as u8, finding));
+            let here = self.first_at(slot as u8, finding);
+            best = lesser(best, here);
         }
         best
     }

@@ -2,8 +2,9 @@
 use awl::names::BlockName;
 use walk::faults::Fault;
 
-// A fault with the statement that has it: statement 0 of OB 1 where there is no OB 1.
-#[derive(Clone, Copy)]
+// A fault with the statement that has it: statement 0 of OB 1 where there is no OB 1. In order by block, then by statement,
+// then by fault.
+#[derive(Clone, Copy, PartialEq, Eq, PartialOrd, Ord)]
 pub struct Found {
     pub block: BlockName,
     pub statement: u8,
