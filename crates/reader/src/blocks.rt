@@ -155,7 +155,7 @@ impl Listing {
         line.check_bytes()?;
         let head = line.head()?;
         self.check_mark(line.number, head.mark)?;
-        let statement = line.statement(head.behind)?;
+        let statement = line.statement(head.words)?;
         Ok(Line {
             number: line.number,
             mark: head.mark.map(|placed| placed.mark),

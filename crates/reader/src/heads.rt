@@ -1,5 +1,6 @@
-// What stands before the statement in a line. It knows nothing of how it is read.
+// What a line is parted into. It knows nothing of how it is read.
 use awl::marks::Mark;
+use lexer::words::Words;
 
 // A mark and the column where it stands.
 #[derive(Clone, Copy)]
@@ -8,9 +9,9 @@ pub struct PlacedMark {
     pub column: usize,
 }
 
-// What stands before the statement in a line: its mark if any, and the column behind its colon.
+// A line parted at its colon: the mark before it if any, and the words behind it.
 #[derive(Clone, Copy)]
-pub struct Head {
+pub struct Head<'a> {
     pub mark: Option<PlacedMark>,
-    pub behind: usize,
+    pub words: Words<'a>,
 }

@@ -1,11 +1,11 @@
 // A line of a text by itself: its mark, its colon and the statement behind it. It knows nothing of other lines.
 ghost use Rattle.std.specs.Prelude.{◌≡◌};
 ghost use Rattle.std.specs.Option.{option_map};
-ghost use Rattle.lexer.specs.Words.{words_from};
+ghost use Rattle.lexer.specs.Words.{seen_words};
 ghost use Rattle.parser.specs.Answers.{map_ok, map_err};
 ghost use Rattle.parser.specs.Statements.{written, statement_of};
 ghost use Rattle.reader.specs.Lines.{code_of, line_end, sound, mark_before, head_of};
-ghost use Rattle.reader.specs.Marked.{placed_seen, head_seen};
+ghost use Rattle.reader.specs.Marked.{placed_seen, parted, head_seen};
 ghost use Rattle.reader.specs.declared.faults.LineFault.TheVariants.{Word as WordOf};
 
 use crate::blocks::code_of;
@@ -15,7 +15,7 @@ use awl::bytes::ByteClass;
 use awl::marks::Mark;
 use awl::statements::Statement;
 use lexer::faults::WordFault;
-use lexer::words::{LineEnd, Word, word_from, words_from};
+use lexer::words::{LineEnd, Word, Words, word_from, words_from};
 use parser::statements::statement_from;
 
 // A line as it is typed, without the byte 10 that ends it, and its number, from 1.
@@ -25,7 +25,7 @@ pub(crate) struct TypedLine<'a> {
     pub(crate) bytes: &'a [u8],
 }
 
-impl TypedLine<'_> {
+impl<'a> TypedLine<'a> {
     // Refuses a line with a byte other than 32 to 126.
     pub(crate) fn check_bytes(self) -> Result<(), LineFault>
         ensures value { result ≡ sound self.entry.number self.entry.bytes.now tt }
@@ -40,10 +40,10 @@ impl TypedLine<'_> {
         Ok(())
     }
 
-    // The line's mark, and the column behind its colon.
+    // The line's mark, and the words behind its colon.
     #[tactic(auto, unfolding(crate::specs::Lines::head_of))]
-    pub(crate) fn head(self) -> Result<Head, LineFault>
-        ensures value { map_ok head_seen result ≡ head_of self.entry.number self.entry.bytes.now }
+    pub(crate) fn head(self) -> Result<Head<'a>, LineFault>
+        ensures value { map_ok head_seen result ≡ map_ok (parted (code_of self.entry.bytes.now)) (head_of self.entry.number self.entry.bytes.now) }
     {
         let code = code_of(self.bytes);
         let colon = ByteClass::BeforeColon.front(code);
@@ -56,15 +56,14 @@ impl TypedLine<'_> {
         let mark = mark_before(&code[..colon], self.end())?;
         Ok(Head {
             mark,
-            behind: colon + 2,
+            words: words_from(code, colon + 2),
         })
     }
 
-    // The statement that the words from a column on make, its fault as the line's.
-    pub(crate) fn statement(self, behind: usize) -> Result<Statement, LineFault>
-        ensures value { map_ok written result ≡ map_err WordOf (statement_of (line_end self.entry.number self.entry.bytes.now) (words_from (code_of self.entry.bytes.now) behind)) }
+    // The statement that the words behind its colon make, its fault as the line's.
+    pub(crate) fn statement(self, words: Words) -> Result<Statement, LineFault>
+        ensures value { map_ok written result ≡ map_err WordOf (statement_of (line_end self.entry.number self.entry.bytes.now) (seen_words words.entry)) }
     {
-        let words = words_from(code_of(self.bytes), behind);
         Ok(statement_from(words, self.end())?)
     }
 
