@@ -1,3 +1,1 @@
-mod Lining
 mod Listing
-mod Showing

@@ -1,6 +1,5 @@
 pub mod Counted
 pub mod Pages
-pub mod Reports
 pub mod Rows
 pub mod Shown
 pub mod Typed

@@ -1,10 +1,10 @@
 -- What the program writes of a text. It assumes nothing.
 use Rattle.std.specs.Prelude.{ℕ, Bool, true, false, List, ◌++◌, length, Ok, Err, codes, decimal, count_by, Result}
-use Rattle.reader.specs.Lines.{lines_of}
+use Rattle.lines.specs.Lines.{lines_of}
 use Rattle.reader.specs.Reading.{Entry}
 use Rattle.reader.specs.declared.faults.BlockFault.{BlockFault}
 use Rattle.list.specs.Counted.{is_marked, is_lost}
-use Rattle.list.specs.Reports.{report_of}
+use Rattle.reports.specs.Refused.{report_of}
 use Rattle.list.specs.Rows.{statement_rows, lost_rows}
 
 -- the rows of the statements, a blank line, and the counts; then the jumps without their mark

@@ -3,7 +3,8 @@ use Rattle.std.specs.Prelude.{ℕ, ◌+◌, cond, List, [], ◌∷◌, ◌++◌,
 use Rattle.awl.specs.Written.{Operand, none, bit, span, timer, counter, data_place, byte_constant, double_constant, mark, block, data_block}
 use Rattle.parser.specs.Statements.{Written}
 use Rattle.reader.specs.Reading.{Entry}
-use Rattle.list.specs.Shown.{shown_byte, right_aligned, mark_cell}
+use Rattle.reports.specs.Shown.{shown_byte}
+use Rattle.list.specs.Shown.{right_aligned, mark_cell}
 use Rattle.list.specs.Typed.{typed}
 
 -- statement number in three columns, line number in five, mark in six, and the statement as its line has it

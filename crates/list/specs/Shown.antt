@@ -1,16 +1,6 @@
--- How bytes, numbers and marks are shown in a listing. It assumes nothing.
-use Rattle.std.specs.Prelude.{ℕ, ◌-◌, cond, List, [], ◌++◌, map, length, Some, None, codes, Option}
-use Rattle.std.specs.List.{repeat}
-use Rattle.awl.specs.Alphabet.{in_class}
-use Rattle.awl.specs.declared.bytes.ByteClass.TheVariants.{Printable}
-
--- a printable byte as itself, any other as ?
-abbrev pub shown_byte : ℕ → ℕ
-shown_byte b = cond (in_class Printable b) b 63
-
--- some spaces
-abbrev pub spaces : ℕ → List ℕ
-spaces n = repeat n (codes " ")
+-- How numbers and marks are shown in a listing. It assumes nothing.
+use Rattle.std.specs.Prelude.{ℕ, ◌-◌, List, [], ◌++◌, map, length, Some, None, Option}
+use Rattle.reports.specs.Shown.{shown_byte, spaces}
 
 -- spaces in front up to a width
 abbrev pub right_aligned : ℕ → List ℕ → List ℕ

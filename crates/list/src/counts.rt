@@ -12,26 +12,22 @@ use reader::listings::Block;
 pub fn marks(block: &Block) -> usize
     ensures value { result ≡ count_by is_marked (listed block.now.lines block.now.count) }
 {
-    let mut count = 0;
-    for i in 0..block.count {
-        if block.lines[i].mark.is_some() {
-            count += 1;
-        }
-    }
-    count
+    block
+        .lines()
+        .iter()
+        .filter(|line| line.mark.is_some())
+        .count()
 }
 
 // How many jumps have a mark that no statement carries.
 pub fn lost_jumps(block: &Block) -> usize
     ensures value { result ≡ count_by is_lost (listed block.now.lines block.now.count) }
 {
-    let mut lost = 0;
-    for i in 0..block.count {
-        if is_lost_jump(block.lines[i].statement) {
-            lost += 1;
-        }
-    }
-    lost
+    block
+        .lines()
+        .iter()
+        .filter(|line| is_lost_jump(line.statement))
+        .count()
 }
 
 // Whether the statement is a jump whose mark no statement carries.

@@ -2,12 +2,11 @@
 // where it stands. It knows nothing of projects, checks or machines.
 #![tactic(auto)]
 
+mod cells;
 mod counts;
-mod lines;
 mod pages;
-mod reports;
 mod rows;
-mod shown;
+mod typed;
 
 use anyhow::anyhow;
 use pages::Page;

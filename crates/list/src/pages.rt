@@ -6,13 +6,13 @@ ghost use Rattle.reader.specs.Reading.{reading};
 ghost use Rattle.list.specs.Pages.{listing_of, page_of, is_refused};
 
 use crate::counts::{lost_jumps, marks};
-use crate::reports::report;
 use crate::rows::{lost_rows, statement_rows};
 use reader::blocks::read;
 use reader::listings::Block;
+use reports::refused::report;
 use std::alloc::{AllocError, Global};
 
-// What is written of a text, and whether the text is refused.
+// What is written of a text, and whether the text is refused. Not an enum of the two: the text is written either way.
 #[derive(Drop)]
 pub struct Page {
     pub text: String,

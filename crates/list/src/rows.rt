@@ -2,16 +2,17 @@
 ghost use Rattle.std.specs.Prelude.{◌≡◌, IfOk, string_bytes, decimal};
 ghost use Rattle.awl.specs.Written.{mark_text};
 ghost use Rattle.parser.specs.Statements.{written};
-ghost use Rattle.reader.specs.Lines.{lines_of};
+ghost use Rattle.lines.specs.Lines.{lines_of};
 ghost use Rattle.reader.specs.Listed.{entry, listed};
 ghost use Rattle.list.specs.Rows.{statement_row, statement_rows, lost_row, lost_target_row, lost_rows};
 ghost use Rattle.list.specs.Shown.{right_aligned};
 
-use crate::lines::statement_text;
-use crate::shown::{mark_cell, right_aligned, shown};
+use crate::cells::{mark_cell, right_aligned};
+use crate::typed::statement_text;
 use awl::statements::{Statement, Target};
-use reader::blocks::line_at;
+use lines::Lines;
 use reader::listings::{Block, Line};
+use reports::shown::shown;
 use std::alloc::{AllocError, Global};
 
 // A row for each statement of the block, in the order of the text that the block was read from.
@@ -19,19 +20,14 @@ pub fn statement_rows(heap: Global, block: &Block, text: &[u8]) -> Result<String
     ensures value { IfOk result (λ s. string_bytes s ≡ statement_rows (listed block.now.lines block.now.count) 1 1 (lines_of text.now)) }
 {
     let mut rows = String::new(heap);
-    let mut at = 0;
-    let mut number = 1;
     let mut done = 0;
-    while at < text.len() && done < block.count {
-        let line = line_at(text, at);
-        let next = block.lines[done];
-        if next.number == number {
-            let row = statement_row(heap, done + 1, next, line)?;
-            rows.push_str(row.as_str())?;
+    for (index, line) in Lines::of(text).enumerate() {
+        if let Some(next) = block.lines().get(done)
+            && next.number == index + 1
+        {
             done += 1;
+            rows.push_str(statement_row(heap, done, *next, line)?.as_str())?;
         }
-        at += line.len() + 1;
-        number += 1;
     }
     Ok(rows)
 }
@@ -60,9 +56,8 @@ pub fn lost_rows(heap: Global, block: &Block) -> Result<String, AllocError>
     ensures value { IfOk result (λ s. string_bytes s ≡ lost_rows 1 (listed block.now.lines block.now.count)) }
 {
     let mut rows = String::new(heap);
-    for i in 0..block.count {
-        let row = lost_row(heap, i + 1, block.lines[i].statement)?;
-        rows.push_str(row.as_str())?;
+    for (index, line) in block.lines().iter().enumerate() {
+        rows.push_str(lost_row(heap, index + 1, line.statement)?.as_str())?;
     }
     Ok(rows)
 }

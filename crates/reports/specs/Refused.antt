@@ -3,7 +3,7 @@ use Rattle.std.specs.Prelude.{ℕ, ◌-◌, List, [], ◌++◌, map, codes, deci
 use Rattle.awl.specs.Refusals.{refusal_number}
 use Rattle.awl.specs.declared.refusals.Refusal.{Refusal}
 use Rattle.reader.specs.Faults.{block_refusal, line_of_block, column_of_block}
-use Rattle.reader.specs.Lines.{lines_of}
+use Rattle.lines.specs.Lines.{lines_of}
 use Rattle.reader.specs.declared.faults.BlockFault.{BlockFault}
 use Rattle.reader.specs.declared.faults.BlockFault.TheVariants.{Line, MarkTwice, Full, Empty}
 use Rattle.reports.specs.Shown.{shown_byte, spaces}

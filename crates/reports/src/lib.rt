@@ -2,7 +2,7 @@
 // column. It knows nothing of how a text is read or where it comes from.
 #![tactic(auto)]
 
-pub mod lines;
+pub mod numbered;
 pub mod refused;
 pub mod shown;
 pub mod words;

@@ -3,7 +3,7 @@
 ghost use Rattle.std.specs.Prelude.{◌≡◌, IfOk, string_bytes};
 ghost use Rattle.reports.specs.Refused.{sentence, pointer, report_at, spot_of, report_of};
 
-use crate::lines::line_numbered;
+use crate::numbered::line_numbered;
 use crate::shown::shown;
 use crate::words::block_words;
 use awl::refusals::Refusal;
@@ -17,12 +17,24 @@ pub struct Spot {
     pub column: usize,
 }
 
+// Where a block's fault stands.
+impl From<BlockFault> for Spot {
+    ghost from_gives = { λ f r. r ≡ spot_of f };
+
+    fn from(fault: BlockFault) -> Spot {
+        Spot {
+            line: fault.line(),
+            column: fault.column(),
+        }
+    }
+}
+
 // The report on the fault of a block's text; without the line and the caret where the text has no statement.
 pub fn report(heap: Global, fault: BlockFault, text: &[u8]) -> Result<String, AllocError>
     ensures value { IfOk result (λ s. string_bytes s ≡ report_of fault text.now) }
 {
     let refusal = fault.refusal();
-    let spot = spot_of(fault);
+    let spot = Spot::from(fault);
     let words = block_words(fault);
     match fault {
         BlockFault::Empty => sentence(heap, refusal, spot, words),
@@ -62,14 +74,4 @@ fn sentence(heap: Global, refusal: Refusal, spot: Spot, words: &str) -> Result<S
     let line = spot.line;
     let column = spot.column;
     format!(in heap; "refused {number} at line {line}, column {column}: {words}\n")
-}
-
-// Where a block's fault stands.
-fn spot_of(fault: BlockFault) -> Spot
-    ensures value { result ≡ spot_of fault }
-{
-    Spot {
-        line: fault.line(),
-        column: fault.column(),
-    }
 }

@@ -9,11 +9,7 @@ use std::alloc::{AllocError, Global};
 pub fn shown(heap: Global, bytes: &[u8]) -> Result<String, AllocError>
     ensures value { IfOk result (λ s. string_bytes s ≡ map shown_byte bytes.now) }
 {
-    let mut text = String::new(heap);
-    for byte in bytes {
-        text.push(shown_byte(*byte))?;
-    }
-    Ok(text)
+    bytes.iter().map(|byte| shown_byte(*byte)).collect(heap)
 }
 
 // The byte as a character, or ? where it is not printable.

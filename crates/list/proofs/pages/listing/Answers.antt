@@ -1,8 +1,7 @@
 use Rattle.std.proofs.Common.{◌≡◌, ◌++◌, string_bytes, codes, decimal, arith}
 use Rattle.reader.specs.Listed.{listed}
 use Rattle.list.specs.Pages.{listing_of}
-use Rattle.list.proofs.Showing.{made_equal}
-use Rattle.list.proofs.Listing.{}
+use Rattle.reports.proofs.Showing.{made_equal}
 use Rattle.reader.proofs.Carrying.{listed-length}
 use Rattle.list.proofs.pages.listing.Goals as goal
 

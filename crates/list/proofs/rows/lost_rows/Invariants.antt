@@ -1,9 +1,7 @@
-use Rattle.std.proofs.Common.{◌≡◌, ◌+◌, ◌++◌, drop, string_bytes}
-use Rattle.reader.specs.Listed.{listed}
+use Rattle.std.proofs.Common.{◌≡◌, ◌+◌, ◌++◌, map, drop, string_bytes}
+use Rattle.reader.specs.Listed.{entry}
 use Rattle.list.specs.Rows.{lost_rows}
 use Rattle.list.proofs.rows.lost_rows.Given as goal
 
-abbrev pub invariant-loop-i : goal.invariant-loop-i
-invariant-loop-i l =
-    string_bytes l.rows ++ lost_rows (l.i + 1) (drop l.i (listed l.block.lines l.block.count))
-    ≡ lost_rows 1 (listed l.block.lines l.block.count)
+abbrev pub invariant-loop-index : goal.invariant-loop-index
+invariant-loop-index l = string_bytes l.rows ++ lost_rows (l.index + 1) (drop l.index (map entry l.line-items)) ≡ lost_rows 1 (map entry l.line-items)

@@ -1,45 +1,55 @@
-use Rattle.std.proofs.Common.{◌≡◌, ◌+◌, ◌≤◌, [], ◌++◌, length, drop, string_bytes, sym, ◌∙◌, append-nil, arith, eq-eqb, ne_eqb}
-use Rattle.reader.specs.Lines.{lines_of}
-use Rattle.reader.specs.Listed.{listed}
-use Rattle.list.specs.Rows.{statement_rows}
-use Rattle.list.proofs.Listing.{rows_hit, rows_miss, rows_end_statements, rows_end_text}
+use Rattle.std.proofs.Common.{◌≡◌, ℕ, ◌+◌, false, length, map, drop, is_some, string_bytes, sym, ap, ◌∙◌, eq-eqb, ne_eqb, arith}
+use Rattle.std.proofs.lemmas.Bool.{ltb-false}
+use Rattle.std.proofs.lemmas.List.{length-take-le}
+use Rattle.lines.specs.Lines.{lines_of}
+use Rattle.reader.specs.Listed.{entry}
+use Rattle.reader.specs.declared.listings.Line.{Line}
+use Rattle.list.specs.Rows.{statement_row, statement_rows}
+use Rattle.list.proofs.Listing.{rows_hit, rows_miss, rows_done}
 use Rattle.list.proofs.rows.statement_rows.Goals as goal
-use Rattle.list.proofs.rows.statement_rows.Goals.{then-next-number+in_ok-row+in_ok-push_str, else-next-number, then-loop-at-test+else-done-block, else-loop-at-test}
+use Rattle.list.proofs.rows.statement_rows.Goals.{in_default-via-in-None-1, in_default-via-in-Some-get+else-next-index}
 
-pub loop-at-preserved : goal.loop-at-preserved
-loop-at-preserved c =
-    let ls = c.args.block.now.lines in
-    let n = c.args.block.now.count in
-    let room = c.args.block.now.room in
-    let few = c.args.block.now.few in
-    let within : n ≤ length ls = omega arith in
-    let text = c.args.text.now in
-    let line = c.line_at-line.result.now in
-    let x = c.index-block-done.result in
-    let out = string_bytes c.loop-at.rows in
-    let i = c.loop-at.done in
-    elim c.if-next-number.branch [
-      | then-next-number+in_ok-row+in_ok-push_str w ↦
-          let hit = rows_hit ls n i c.loop-at.number c.loop-at.at x text line out w.as_str.result.now (string_bytes w.push_str.new.self) c.if-done-block.true within c.loop-at-test.true c.line_at-line.ensures.value (eq-eqb _ _ w.if-next-number.true) (w.as_str.ensures.value ∙ w.in_ok-row.ensures.value) w.in_ok-push_str.ensures.bytes in
-          (omega arith, omega (arith, w.done-is), cc (w.rows-is, w.done-is, c.loop-at.invariant.2))
-      | else-next-number w ↦
-          let miss = rows_miss ls n i c.loop-at.number c.loop-at.at x text line out c.if-done-block.true within c.loop-at-test.true c.line_at-line.ensures.value (ne_eqb _ _ w.if-next-number.false) in
-          (omega arith, omega (arith, w.done-is), cc (w.rows-is, w.done-is, c.loop-at.invariant.2))
-    ]
+pub loop-index-preserved-in-loop-index : goal.loop-index-preserved-in-loop-index
+loop-index-preserved-in-loop-index c =
+    let block = c.args.block.now in
+    let room = block.room in
+    let few = block.few in
+    let xs = c.lines.result.now in
+    let size : length xs ≡ block.count = ap length c.lines.ensures.value ∙ length-take-le block.count block.lines (omega arith) in
+    let i = c.loop-index.done in
+    let here = c.in-Some.ensures.steps in
+    let found = c.in-Some-get.ensures.lookup in
+    let inside = found.3.0 in
+    let next = c.in-Some-get.next.now in
+    let line = c.in-Some.line.now in
+    let more = ap length here.0 in
+    let hit = rows_hit xs i (c.loop-index.index-iterator.count + 1) next line (string_bytes c.loop-index.rows) c.as_str.result.now (string_bytes c.push_str.new.self) (lines_of c.loop-index.index-iterator.iter) (lines_of c.next.new.self.iter)
+    inside here.0 (eq-eqb _ _ (sym (ap (λ (l : Line). l.number) found.1) ∙ c.if-next-index.true ∙ ap (λ (n : ℕ). n + 1) here.1))
+    (c.as_str.ensures.value ∙ c.in_ok-statement_row.ensures.value ∙ ap (λ (l : Line). statement_row (i + 1) (entry l) line) found.1)
+    c.in_ok-push_str.ensures.bytes in
+    (omega (arith, here.2), omega arith, cc (hit, here.2, c.lines.ensures.value, c.loop-index.invariant.2))
 
-pub returns : goal.returns
-returns c =
-    let ls = c.args.block.now.lines in
-    let n = c.args.block.now.count in
-    let room = c.args.block.now.room in
-    let few = c.args.block.now.few in
-    let out = string_bytes c.loop-at.rows in
-    let es = listed ls n in
-    let ends : out ++ statement_rows (drop c.loop-at.done es) c.loop-at.number (c.loop-at.done + 1) (lines_of (drop c.loop-at.at c.args.text.now)) ≡ out ++ [] =
-    elim c.loop-at-test.branch [
-      | then-loop-at-test+else-done-block w ↦
-          rows_end_statements ls n c.loop-at.done c.loop-at.number (lines_of (drop c.loop-at.at c.args.text.now)) out (omega arith) w.if-done-block.false
-      | else-loop-at-test w ↦
-          rows_end_text (drop c.loop-at.done es) c.loop-at.number (c.loop-at.done + 1) c.loop-at.at c.args.text.now out w.loop-at-test.false
+pub loop-index-preserved : goal.loop-index-preserved
+loop-index-preserved c =
+    let block = c.args.block.now in
+    let room = block.room in
+    let few = block.few in
+    let xs = c.lines.result.now in
+    let size : length xs ≡ block.count = ap length c.lines.ensures.value ∙ length-take-le block.count block.lines (omega arith) in
+    let i = c.loop-index.done in
+    let here = c.in-Some.ensures.steps in
+    let more = ap length here.0 in
+    let all = lines_of c.loop-index.index-iterator.iter in
+    let rest = lines_of c.next.new.self.iter in
+    let n = c.loop-index.index-iterator.count + 1 in
+    let miss : statement_rows (drop i (map entry xs)) (n + 1) (i + 1) rest ≡ statement_rows (drop i (map entry xs)) n (i + 1) all =
+    elim c.in_default.branch [
+      | in_default-via-in-None-1 w ↦
+          let none : is_some c.get.result ≡ false = cc in
+          let past = ltb-false _ _ (sym c.get.ensures.lookup.0 ∙ none) in
+          rows_done xs i (n + 1) rest past ∙ sym (rows_done xs i n all past)
+      | in_default-via-in-Some-get+else-next-index w ↦
+          let found = w.in-Some-get.ensures.lookup in
+          rows_miss xs i n w.in-Some-get.next.now c.in-Some.line.now all rest found.3.0 here.0 (ne_eqb _ _ (λ e. w.if-next-index.false (ap (λ (l : Line). l.number) found.1 ∙ e ∙ ap (λ (k : ℕ). k + 1) (sym here.1))))
     ] in
-    record { value = sym (append-nil out) ∙ sym ends ∙ c.loop-at.invariant.2 }
+    (omega (arith, here.2), omega arith, cc (miss, here.2, c.lines.ensures.value, c.loop-index.invariant.2))
