@@ -1,11 +1,17 @@
 -- The lines of a file up to the next head, and the sections that they make. Assumes nothing.
-use Rattle.std.proofs.Common.{◌≡◌, ℕ, ◌+◌, ◌-◌, ◌<◌, ◌≤◌, min, Bool, true, false, cond, leb, List, [], ◌∷◌, ◌++◌, map, length, get_or, take, drop, IsErrAnd, Some, None, Ok, Err, Result, Vec, sym, refl, ap, ◌∙◌, arith, leb-false, leb-true}
+use Rattle.std.proofs.Common.{◌≡◌, ℕ, ◌+◌, ◌-◌, ◌<◌, ◌≤◌, min, Bool, true, false, cond, not, ◌==◌, leb, List, [], ◌∷◌, ◌++◌, map, length, take, drop, IsErrAnd, Some, Ok, Err, Result, Vec, sym, refl, ap, ◌∙◌, arith, leb-false, leb-true}
 use Rattle.std.specs.declared.alloc.Global.{Global}
-use Rattle.std.proofs.lemmas.List.{at_drop_more, at_drop_all, drop_all, drop-drop, map_push, take_all}
+use Rattle.std.proofs.lemmas.List.{drop_all, drop-drop, map_push, take_all}
 use Rattle.awl.specs.declared.names.BlockName.{BlockName}
 use Rattle.parser.specs.Answers.{and_then}
-use Rattle.reader.specs.Lines.{lines_of, first_line, holds}
-use Rattle.reader.proofs.Lining.{line_cut_at}
+use Rattle.lines.specs.Lines.{lines_of}
+use Rattle.lines.proofs.Cutting.{size, line_cut}
+use Rattle.std.specs.List.{find}
+use Rattle.std.specs.Option.{option_map}
+use Rattle.std.proofs.lemmas.List.{length-drop}
+use Rattle.std.proofs.lemmas.List.Sums.{prefix_len-le-length}
+use Rattle.std.proofs.lemmas.List.Folds.{length-prefix_len}
+use Rattle.reader.specs.Lines.{holds}
 use Rattle.projects.specs.Heads.{is_head}
 use Rattle.projects.specs.Sections.{Cut, seen_section, body_size, no_stray, names, section_named, section_of, sections_from, sections_of, Agrees}
 use Rattle.projects.specs.declared.sections.FileFault.{FileFault}
@@ -18,58 +24,64 @@ use Rattle.projects.specs.declared.sections.Uncut.TheVariants.{Fault, Memory}
 abbrev pub behind : ℕ → List ℕ → ℕ
 behind i line = i + (length line + 1)
 
--- the lines from an index on: the line there, and those behind it
-pub cut_here : (text line : List ℕ) (i : ℕ) → i < length text → line ≡ first_line (drop i text) → lines_of (drop i text) ≡ line ∷ lines_of (drop (behind i line) text)
-cut_here text line i h e = line_cut_at text i h ∙ ap (λ (l : List ℕ). l ∷ lines_of (drop (behind i l) text)) (sym e)
+-- a line that comes next begins where those before it end, is a part of the text, and has the others behind it
+pub record Next (text line : List ℕ) (i : ℕ) (more : List (List ℕ)) : Type 0 where
+  pub starts : i < length text
+  pub within : i + length line ≤ length text
+  pub cut : lines_of (drop i text) ≡ line ∷ lines_of (drop (behind i line) text)
+  pub rest : more ≡ lines_of (drop (behind i line) text)
 
--- a body ends at a head, goes on at any other line, and ends with the text
-body_step : (text line : List ℕ) (i : ℕ) (b : Bool) → i < length text → line ≡ first_line (drop i text) → is_head line ≡ b → body_size (lines_of (drop i text)) ≡ cond b 0 (length line + 1 + body_size (lines_of (drop (behind i line) text)))
-body_step text line i b h e f =
-    ap body_size (cut_here text line i h e) ∙ ap (λ (x : Bool). cond x 0 (length line + 1 + body_size (lines_of (drop (behind i line) text)))) f
+first_of : (t line : List ℕ) (more : List (List ℕ)) → lines_of t ≡ line ∷ more → (0 < length t) × (line ≡ take (size t) t) × (more ≡ lines_of (drop (size t + 1) t))
+first_of [] line more e = absurd (let z : ◌≡◌ {A = ℕ} 0 1 = cc in omega arith)
+first_of (b ∷ t) line more e = let cut = line_cut (b ∷ t) (omega arith) in (omega arith, cc, cc)
 
-pub body_head : (text line : List ℕ) (i : ℕ) → i < length text → line ≡ first_line (drop i text) → is_head line ≡ true → body_size (lines_of (drop i text)) ≡ 0
-body_head text line i h e f = body_step text line i true h e f
+pub next_line : (text line : List ℕ) (i : ℕ) (all more : List (List ℕ)) → all ≡ lines_of (drop i text) → all ≡ line ∷ more → Next text line i more
+next_line text line i all more at e =
+    let t = drop i text in
+    let first = first_of t line more (sym at ∙ e) in
+    let some = first.0 in
+    let long : length line ≡ size t = ap length first.1 ∙ length-prefix_len (λ b. not (b == 10)) t in
+    let few = prefix_len-le-length (λ b. not (b == 10)) t in
+    let left = length-drop i text in
+    let after : drop (size t + 1) t ≡ drop (behind i line) text = ap (λ (n : ℕ). drop (n + 1) t) (sym long) ∙ drop-drop (length line + 1) i text in
+    let rest = first.2 ∙ ap lines_of after in
+    record {
+      starts = omega arith;
+      within = omega arith;
+      cut = sym at ∙ e ∙ ap (λ (ls : List (List ℕ)). line ∷ ls) rest;
+      rest = rest;
+    }
 
-pub body_more : (text line : List ℕ) (i : ℕ) → i < length text → line ≡ first_line (drop i text) → is_head line ≡ false → body_size (lines_of (drop i text)) ≡ length line + 1 + body_size (lines_of (drop (behind i line) text))
-body_more text line i h e f = body_step text line i false h e f
+-- no line comes where the text has ended
+none_of : (t : List ℕ) → lines_of t ≡ [] → length t ≡ 0
+none_of [] e = refl
+none_of (b ∷ t) e = let cut = line_cut (b ∷ t) (omega arith) in absurd (let z : ◌≡◌ {A = ℕ} 0 1 = cc in omega arith)
 
-pub body_end : (text : List ℕ) (i : ℕ) → length text ≤ i → body_size (lines_of (drop i text)) ≡ 0
-body_end text i h = ap (λ (t : List ℕ). body_size (lines_of t)) (drop_all i text h)
+pub no_more : (text : List ℕ) (i : ℕ) (all : List (List ℕ)) → all ≡ lines_of (drop i text) → all ≡ [] → length text ≤ i
+no_more text i all at e = let none = none_of (drop i text) (sym at ∙ e) in omega (arith, length-drop i text)
+
+-- what the lines before the next head take, where the first of them is a head, and where it is not
+pub body_line : (line : List ℕ) (all rest : List (List ℕ)) (b : Bool) → all ≡ line ∷ rest → is_head line ≡ b → body_size all ≡ cond b 0 (length line + 1 + body_size rest)
+body_line line all rest b e f = ap body_size e ∙ ap (λ (x : Bool). cond x 0 (length line + 1 + body_size rest)) f
+
+pub body_none : (all : List (List ℕ)) → all ≡ [] → body_size all ≡ 0
+body_none all e = ap body_size e
 
 -- the same for a line that belongs to no block
-stray_step : (text line : List ℕ) (i n : ℕ) (b c : Bool) → i < length text → line ≡ first_line (drop i text) → is_head line ≡ b → holds line ≡ c → no_stray n (lines_of (drop i text)) ≡ cond b (Ok tt) (cond c (Err (Stray n)) (no_stray (n + 1) (lines_of (drop (behind i line) text))))
-stray_step text line i n b c h e f g =
-    let rest = no_stray (n + 1) (lines_of (drop (behind i line) text)) in
-    ap (no_stray n) (cut_here text line i h e)
-    ∙ ap (λ (x : Bool). cond x (Ok tt) (cond (holds line) (Err (Stray n)) rest)) f
-    ∙ ap (λ (x : Bool). cond b (Ok tt) (cond x (Err (Stray n)) rest)) g
+pub stray_line : (line : List ℕ) (all rest : List (List ℕ)) (n : ℕ) (b c : Bool) → all ≡ line ∷ rest → is_head line ≡ b → holds line ≡ c → no_stray n all ≡ cond b (Ok tt) (cond c (Err (Stray n)) (no_stray (n + 1) rest))
+stray_line line all rest n b c e f g =
+    ap (no_stray n) e
+    ∙ ap (λ (x : Bool). cond x (Ok tt) (cond (holds line) (Err (Stray n)) (no_stray (n + 1) rest))) f
+    ∙ ap (λ (x : Bool). cond b (Ok tt) (cond x (Err (Stray n)) (no_stray (n + 1) rest))) g
 
-pub stray_head : (text line : List ℕ) (i n : ℕ) → i < length text → line ≡ first_line (drop i text) → is_head line ≡ true → no_stray n (lines_of (drop i text)) ≡ Ok tt
-stray_head text line i n h e f = stray_step text line i n true (holds line) h e f refl
-
-pub stray_here : (text line : List ℕ) (i n : ℕ) → i < length text → line ≡ first_line (drop i text) → is_head line ≡ false → holds line ≡ true → no_stray n (lines_of (drop i text)) ≡ Err (Stray n)
-stray_here text line i n h e f g = stray_step text line i n false true h e f g
-
-pub stray_more : (text line : List ℕ) (i n : ℕ) → i < length text → line ≡ first_line (drop i text) → is_head line ≡ false → holds line ≡ false → no_stray n (lines_of (drop i text)) ≡ no_stray (n + 1) (lines_of (drop (behind i line) text))
-stray_more text line i n h e f g = stray_step text line i n false false h e f g
-
-pub stray_end : (text : List ℕ) (i n : ℕ) → length text ≤ i → no_stray n (lines_of (drop i text)) ≡ Ok tt
-stray_end text i n h = ap (λ (t : List ℕ). no_stray n (lines_of t)) (drop_all i text h)
-
--- the search for the section of a block, one step and its end
-named_step : (name : BlockName) (xs : List Section) (i : ℕ) (d : Section) (b : Bool) → i < length xs → names (get_or xs i d).head name ≡ b → section_named name (map seen_section (drop i xs)) ≡ cond b (Some (seen_section (get_or xs i d))) (section_named name (map seen_section (drop (i + 1) xs)))
-named_step name xs i d b h e =
-    at_drop_more (λ (ys : List Section). section_named name (map seen_section ys)) xs i d h
-    ∙ ap (λ (x : Bool). cond x (Some (seen_section (get_or xs i d))) (section_named name (map seen_section (drop (i + 1) xs)))) e
-
-pub named_here : (name : BlockName) (xs : List Section) (i : ℕ) (d : Section) → i < length xs → names (get_or xs i d).head name ≡ true → section_named name (map seen_section (drop i xs)) ≡ Some (seen_section (get_or xs i d))
-named_here name xs i d h e = named_step name xs i d true h e
-
-pub named_more : (name : BlockName) (xs : List Section) (i : ℕ) (d : Section) → i < length xs → names (get_or xs i d).head name ≡ false → section_named name (map seen_section (drop i xs)) ≡ section_named name (map seen_section (drop (i + 1) xs))
-named_more name xs i d h e = named_step name xs i d false h e
-
-pub named_end : (name : BlockName) (xs : List Section) (i : ℕ) → length xs ≤ i → section_named name (map seen_section (drop i xs)) ≡ None
-named_end name xs i h = at_drop_all (λ (ys : List Section). section_named name (map seen_section ys)) xs i h
+-- the section of a block, by the first that a search of the list finds
+pub named_found : (name : BlockName) (xs : List Section) → option_map seen_section (find (λ (s : Section). names s.head name) xs) ≡ section_named name (map seen_section xs)
+named_found name [] = refl
+named_found name (x ∷ xs) = go (names x.head name) (named_found name xs)
+  where
+    go : (b : Bool) → option_map seen_section (find (λ (s : Section). names s.head name) xs) ≡ section_named name (map seen_section xs) → option_map seen_section (cond b (Some x) (find (λ (s : Section). names s.head name) xs)) ≡ cond b (Some (seen_section x)) (section_named name (map seen_section xs))
+    go true e = refl
+    go false e = e
 
 -- a cut at a body's end is the body; `n - 0` is how the checker writes the end of a part `[0..n]`
 pub take_min : (text : List ℕ) (n : ℕ) → n ≡ min (body_size (lines_of text)) (length text) → take (n - 0) text ≡ take (body_size (lines_of text)) text
@@ -90,30 +102,30 @@ abbrev pub sections_at : List Cut → ℕ → List ℕ → ℕ → Result (List 
 sections_at cs n file i = sections_from cs n (lines_of (drop i file)) (drop i file)
 
 -- a line adds its section where it is a head, and nothing else where it is not
-sections_step : (cs : List Cut) (n i : ℕ) (file line : List ℕ) (b : Bool) → i < length file → line ≡ first_line (drop i file) → is_head line ≡ b → sections_at cs n file i ≡ cond b (and_then (section_of cs n line (drop (behind i line) file)) (λ c. sections_at (cs ++ c ∷ []) (n + 1) file (behind i line))) (sections_at cs (n + 1) file (behind i line))
+sections_step : (cs : List Cut) (n i : ℕ) (file line : List ℕ) (b : Bool) → lines_of (drop i file) ≡ line ∷ lines_of (drop (behind i line) file) → is_head line ≡ b → sections_at cs n file i ≡ cond b (and_then (section_of cs n line (drop (behind i line) file)) (λ c. sections_at (cs ++ c ∷ []) (n + 1) file (behind i line))) (sections_at cs (n + 1) file (behind i line))
 unfolding sections_from
-sections_step cs n i file line b h e f =
+sections_step cs n i file line b cut f =
     let rest = lines_of (drop (behind i line) file) in
-    ap (λ (ls : List (List ℕ)). sections_from cs n ls (drop i file)) (cut_here file line i h e)
+    ap (λ (ls : List (List ℕ)). sections_from cs n ls (drop i file)) cut
     ∙ ap (λ (t : List ℕ). cond (is_head line) (and_then (section_of cs n line t) (λ c. sections_from (cs ++ c ∷ []) (n + 1) rest t)) (sections_from cs (n + 1) rest t)) (drop-drop (length line + 1) i file)
     ∙ ap (λ (x : Bool). cond x (and_then (section_of cs n line (drop (behind i line) file)) (λ c. sections_at (cs ++ c ∷ []) (n + 1) file (behind i line))) (sections_at cs (n + 1) file (behind i line))) f
 
-pub no_section : (cs : List Cut) (n i : ℕ) (file line : List ℕ) → i < length file → line ≡ first_line (drop i file) → is_head line ≡ false → sections_at cs (n + 1) file (behind i line) ≡ sections_at cs n file i
-no_section cs n i file line h e f = sym (sections_step cs n i file line false h e f)
+pub no_section : (cs : List Cut) (n i : ℕ) (file line : List ℕ) → lines_of (drop i file) ≡ line ∷ lines_of (drop (behind i line) file) → is_head line ≡ false → sections_at cs (n + 1) file (behind i line) ≡ sections_at cs n file i
+no_section cs n i file line cut f = sym (sections_step cs n i file line false cut f)
 
-pub one_section : (parts above after : List Section) (part : Section) (n i : ℕ) (file line below : List ℕ) → i < length file → line ≡ first_line (drop i file) → is_head line ≡ true → above ≡ parts → below ≡ drop (behind i line) file → Ok (seen_section part) ≡ section_of (map seen_section above) n line below → after ≡ parts ++ part ∷ [] → sections_at (map seen_section after) (n + 1) file (behind i line) ≡ sections_at (map seen_section parts) n file i
-one_section parts above after part n i file line below h e f a b s p =
+pub one_section : (parts above after : List Section) (part : Section) (n i : ℕ) (file line below : List ℕ) → lines_of (drop i file) ≡ line ∷ lines_of (drop (behind i line) file) → is_head line ≡ true → above ≡ parts → below ≡ drop (behind i line) file → Ok (seen_section part) ≡ section_of (map seen_section above) n line below → after ≡ parts ++ part ∷ [] → sections_at (map seen_section after) (n + 1) file (behind i line) ≡ sections_at (map seen_section parts) n file i
+one_section parts above after part n i file line below cut f a b s p =
     let cs = map seen_section parts in
     let made : section_of cs n line (drop (behind i line) file) ≡ Ok (seen_section part) = cc in
     ap (λ (xs : List Section). sections_at (map seen_section xs) (n + 1) file (behind i line)) p
     ∙ ap (λ (xs : List Cut). sections_at xs (n + 1) file (behind i line)) (map_push seen_section parts part)
-    ∙ sym (sections_step cs n i file line true h e f ∙ ap (λ (r : Result Cut FileFault). and_then r (λ c. sections_at (cs ++ c ∷ []) (n + 1) file (behind i line))) made)
+    ∙ sym (sections_step cs n i file line true cut f ∙ ap (λ (r : Result Cut FileFault). and_then r (λ c. sections_at (cs ++ c ∷ []) (n + 1) file (behind i line))) made)
 
-pub faulty_section : (parts above : List Section) (fault : FileFault) (n i : ℕ) (file line below : List ℕ) → i < length file → line ≡ first_line (drop i file) → is_head line ≡ true → above ≡ parts → below ≡ drop (behind i line) file → Err fault ≡ section_of (map seen_section above) n line below → Err fault ≡ sections_at (map seen_section parts) n file i
-faulty_section parts above fault n i file line below h e f a b s =
+pub faulty_section : (parts above : List Section) (fault : FileFault) (n i : ℕ) (file line below : List ℕ) → lines_of (drop i file) ≡ line ∷ lines_of (drop (behind i line) file) → is_head line ≡ true → above ≡ parts → below ≡ drop (behind i line) file → Err fault ≡ section_of (map seen_section above) n line below → Err fault ≡ sections_at (map seen_section parts) n file i
+faulty_section parts above fault n i file line below cut f a b s =
     let cs = map seen_section parts in
     let made : section_of cs n line (drop (behind i line) file) ≡ Err fault = cc in
-    sym (sections_step cs n i file line true h e f ∙ ap (λ (r : Result Cut FileFault). and_then r (λ c. sections_at (cs ++ c ∷ []) (n + 1) file (behind i line))) made)
+    sym (sections_step cs n i file line true cut f ∙ ap (λ (r : Result Cut FileFault). and_then r (λ c. sections_at (cs ++ c ∷ []) (n + 1) file (behind i line))) made)
 
 pub sections_end : (cs : List Cut) (n i : ℕ) (file : List ℕ) → length file ≤ i → Ok cs ≡ sections_at cs n file i
 unfolding sections_from

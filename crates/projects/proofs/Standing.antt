@@ -4,7 +4,7 @@ use borrow.Author.Tests.{eqb-false}
 use Rattle.std.specs.Option.{option_map}
 use Rattle.reader.specs.Reading.{Entry, reading}
 use Rattle.reader.specs.declared.faults.BlockFault.{BlockFault}
-use Rattle.projects.specs.Lines.{line_among, line_read, below, line_below}
+use Rattle.projects.specs.Origins.{line_among, line_read, below, line_below}
 use Rattle.projects.specs.Sections.{Cut}
 
 -- the line of a statement that a text has

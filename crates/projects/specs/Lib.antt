@@ -1,4 +1,4 @@
 pub mod Heads
-pub mod Lines
+pub mod Origins
 pub mod Sections
 pub mod Told

@@ -4,7 +4,8 @@ use Rattle.std.specs.declared.alloc.Global.{Global}
 use Rattle.awl.specs.Order.{kind_rank}
 use Rattle.awl.specs.declared.names.BlockName.{BlockName}
 use Rattle.parser.specs.Answers.{and_then, map_err}
-use Rattle.reader.specs.Lines.{lines_of, holds}
+use Rattle.lines.specs.Lines.{lines_of}
+use Rattle.reader.specs.Lines.{holds}
 use Rattle.projects.specs.Heads.{is_head, head_of}
 use Rattle.projects.specs.declared.heads.Head.{Head}
 use Rattle.projects.specs.declared.heads.Head.TheVariants.{Block, Data}

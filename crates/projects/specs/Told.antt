@@ -1,7 +1,6 @@
 -- What is told of a project file that cannot be cut. It assumes nothing.
 use Rattle.std.specs.Prelude.{ℕ, List, ◌++◌, codes, decimal}
-use Rattle.awl.specs.declared.names.BlockKind.{BlockKind}
-use Rattle.awl.specs.declared.names.BlockKind.TheVariants.{Organisation, Program, Function}
+use Rattle.awl.specs.Names.{block_name_text}
 use Rattle.awl.specs.declared.names.BlockName.{BlockName}
 use Rattle.reports.specs.Refused.{pointer}
 use Rattle.projects.specs.declared.heads.Head.{Head}
@@ -12,15 +11,9 @@ use Rattle.projects.specs.declared.heads.HeadFlaw.TheVariants.{Byte, Kind, Numbe
 use Rattle.projects.specs.declared.sections.FileFault.{FileFault}
 use Rattle.projects.specs.declared.sections.FileFault.TheVariants as fault
 
--- the letters of a block's kind
-abbrev pub kind_letters : BlockKind → List ℕ
-kind_letters Organisation = codes "OB"
-kind_letters Program = codes "PB"
-kind_letters Function = codes "FB"
-
 -- kind and number: PB 3
 abbrev pub block_name : BlockName → List ℕ
-block_name b = kind_letters b.kind ++ (codes " " ++ decimal b.number)
+block_name b = block_name_text b
 
 -- a block or a data block as its head has it, without the length
 abbrev pub head_name : Head → List ℕ

@@ -42,10 +42,7 @@ pub fn is_head(line: &[u8]) -> bool
     ensures value { result ≡ is_head line.now }
 {
     let behind = tail(line, ByteClass::Space.front(line));
-    if behind.is_empty() {
-        return false;
-    }
-    behind[0] == b'*'
+    behind.first().is_some_and(|first| *first == b'*')
 }
 
 // What a head line says, or its first fault.
@@ -91,28 +88,23 @@ fn named(words: Words, end: usize) -> Result<Head, HeadFault>
 fn block_number(word: Part, end: usize) -> Result<u8, HeadFault>
     ensures value { result ≡ expected Number end (seen word.entry) (byte_of (seen word.entry).bytes) }
 {
-    match byte_value(word.bytes) {
-        Some(number) => Ok(number),
-        None => Err(fault(HeadFlaw::Number, word, end)),
-    }
+    byte_value(word.bytes).ok_or(fault(HeadFlaw::Number, word, end))
 }
 
 // How many words a data block is to have. What 16 bits cannot hold is taken as 65535, which is refused as well.
 fn data_length(word: Part, end: usize) -> Result<u16, HeadFault>
     ensures value { result ≡ expected Length end (seen word.entry) (length_of (seen word.entry).bytes) }
 {
-    match number(word.bytes) {
-        Some(length) if length <= 65535 => Ok(length as u16),
-        Some(_) => Ok(65535),
-        None => Err(fault(HeadFlaw::Length, word, end)),
-    }
+    number(word.bytes)
+        .map(|length| u16::try_from(length).unwrap_or(u16::MAX))
+        .ok_or(fault(HeadFlaw::Length, word, end))
 }
 
 // The head, where no word stands behind it.
 fn ended(head: Head, behind: Part) -> Result<Head, HeadFault>
     ensures value { result ≡ ended head (seen behind.entry) }
 {
-    if behind.bytes.is_empty() {
+    if behind.is_missing() {
         return Ok(head);
     }
     Err(HeadFault {
@@ -125,11 +117,8 @@ fn ended(head: Head, behind: Part) -> Result<Head, HeadFault>
 fn fault(flaw: HeadFlaw, word: Part, end: usize) -> HeadFault
     ensures value { result ≡ fault_of flaw end (seen word.entry) }
 {
-    if word.bytes.is_empty() {
-        return HeadFault { flaw, column: end };
-    }
     HeadFault {
         flaw,
-        column: word.column,
+        column: if word.is_missing() { end } else { word.column },
     }
 }

@@ -3,6 +3,6 @@
 #![tactic(auto)]
 
 pub mod heads;
-pub mod lines;
+pub mod origins;
 pub mod sections;
 pub mod told;

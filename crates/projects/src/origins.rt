@@ -1,6 +1,6 @@
 // Where the statements of a project stand in its file. It knows nothing of faults.
 ghost use Rattle.std.specs.Prelude.{◌≡◌, ℕ, map};
-ghost use Rattle.projects.specs.Lines.{line_below, line_of};
+ghost use Rattle.projects.specs.Origins.{line_below, line_of};
 ghost use Rattle.projects.specs.Sections.{seen_section, section_named};
 
 use crate::sections::{Section, section_of};
@@ -11,21 +11,16 @@ use reader::blocks::read;
 pub fn line_of(sections: &[Section], name: BlockName, statement: u8) -> Option<usize>
     ensures value { result ≡ line_of statement (section_named name (map seen_section sections.now)) }
 {
-    match section_of(name, sections) {
-        Some(section) => line_below(section, statement),
-        None => None,
-    }
+    section_of(name, sections).and_then(|section| line_below(section, statement))
 }
 
 // The line of the file where a section's statement stands: its line in the text, counted from the head on.
 fn line_below(section: Section, statement: u8) -> Option<usize>
     ensures value { result ≡ line_below statement (seen_section section.entry) }
 {
-    match read(section.text) {
-        Ok(block) => match block.line(statement) {
-            Some(line) => Some(section.line.saturating_add(line.number)),
-            None => None,
-        },
-        Err(_) => None,
-    }
+    let Ok(block) = read(section.text) else {
+        return None;
+    };
+    let line = block.line(statement)?;
+    Some(section.line.saturating_add(line.number))
 }

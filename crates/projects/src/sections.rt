@@ -3,7 +3,7 @@
 ghost use Rattle.std.specs.Prelude.{◌≡◌, ℕ, ◌+◌, ◌^◌, ◌<◌, min, map, length};
 ghost use Rattle.std.specs.Option.{option_map};
 ghost use Rattle.parser.specs.Answers.{map_ok, map_err};
-ghost use Rattle.reader.specs.Lines.{lines_of};
+ghost use Rattle.lines.specs.Lines.{lines_of};
 ghost use Rattle.projects.specs.Heads.{head_of};
 ghost use Rattle.projects.specs.Sections.{seen_section, body_size, no_stray, names, section_named, new_name, allowed, section_of, sections_of, Agrees};
 ghost use Rattle.projects.specs.declared.sections.FileFault.TheVariants.{Head as HeadOf};
@@ -12,7 +12,8 @@ ghost use Rattle.projects.specs.declared.sections.Uncut.TheVariants.{Fault as Fa
 use crate::heads::{Head, HeadFault, is_head, read_head};
 use awl::bytes::tail;
 use awl::names::BlockName;
-use reader::blocks::{holds_statement, line_at};
+use lines::Lines;
+use reader::blocks::holds_statement;
 use std::alloc::{AllocFailed, Global};
 
 // A head and the lines below it, up to the next head.
@@ -70,15 +71,12 @@ pub fn sections(heap: Global, file: &[u8]) -> Result<Vec<Section<'_>>, Uncut>
     check_stray(1, file)?;
     let mut parts = Vec::new(heap);
     let mut at = 0;
-    let mut number = 1;
-    while at < file.len() {
-        let line = line_at(file, at);
+    for (index, line) in Lines::of(file).enumerate() {
         at += line.len() + 1;
         if is_head(line) {
-            let part = section_below(parts.as_slice(), number, line, tail(file, at))?;
+            let part = section_below(parts.as_slice(), index + 1, line, tail(file, at))?;
             parts.push(part)?;
         }
-        number += 1;
     }
     Ok(parts)
 }
@@ -87,12 +85,10 @@ pub fn sections(heap: Global, file: &[u8]) -> Result<Vec<Section<'_>>, Uncut>
 pub fn section_of<'a>(name: BlockName, sections: &[Section<'a>]) -> Option<Section<'a>>
     ensures value { option_map seen_section result ≡ section_named name (map seen_section sections.now) }
 {
-    for i in 0..sections.len() {
-        if sections[i].head.names(name) {
-            return Some(sections[i]);
-        }
-    }
-    None
+    sections
+        .iter()
+        .find(|section| section.head.names(name))
+        .copied()
 }
 
 impl Head {
@@ -101,11 +97,8 @@ impl Head {
         ensures value { result ≡ names self name }
     {
         match self {
-            Head::Block(own) => own.kind.rank() == name.kind.rank() && own.number == name.number,
-            Head::Data {
-                number: _,
-                length: _,
-            } => false,
+            Head::Block(own) => own == name,
+            Head::Data { .. } => false,
         }
     }
 }
@@ -114,13 +107,12 @@ impl Head {
 fn body_size(text: &[u8]) -> usize
     ensures value { result ≡ min (body_size (lines_of text.now)) (length text.now) }
 {
-    let mut at = 0;
-    while at < text.len() {
-        let line = line_at(text, at);
+    let mut size = 0;
+    for line in Lines::of(text) {
         if is_head(line) {
-            return at;
+            return size;
         }
-        at += line.len() + 1;
+        size += line.len() + 1;
     }
     text.len()
 }
@@ -130,18 +122,15 @@ fn check_stray(first: usize, text: &[u8]) -> Result<(), FileFault>
     requires { first + length text.now < 2 ^ 64 }
     ensures value { result ≡ no_stray first (lines_of text.now) }
 {
-    let mut at = 0;
-    let mut number = first;
-    while at < text.len() {
-        let line = line_at(text, at);
+    for (index, line) in Lines::of(text).enumerate() {
         if is_head(line) {
             return Ok(());
         }
         if holds_statement(line) {
-            return Err(FileFault::Stray { line: number });
+            return Err(FileFault::Stray {
+                line: first + index,
+            });
         }
-        at += line.len() + 1;
-        number += 1;
     }
     Ok(())
 }
@@ -167,10 +156,7 @@ fn check_head(above: &[Section], number: usize, head: Head, below: &[u8]) -> Res
 {
     match head {
         Head::Block(name) => check_new(name, number, above),
-        Head::Data {
-            number: _,
-            length: _,
-        } => check_stray(number + 1, below),
+        Head::Data { .. } => check_stray(number + 1, below),
     }
 }
 
@@ -178,13 +164,10 @@ fn check_head(above: &[Section], number: usize, head: Head, below: &[u8]) -> Res
 fn head_at(number: usize, line: &[u8]) -> Result<Head, FileFault>
     ensures value { result ≡ map_err (HeadOf number) (head_of line.now) }
 {
-    match read_head(line) {
-        Ok(head) => Ok(head),
-        Err(fault) => Err(FileFault::Head {
-            line: number,
-            fault,
-        }),
-    }
+    read_head(line).map_err(|fault| FileFault::Head {
+        line: number,
+        fault,
+    })
 }
 
 // The section of a head line, with what stands below it.

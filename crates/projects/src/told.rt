@@ -1,13 +1,14 @@
 // What is told of a project file that cannot be cut, and the names of blocks as heads have them. It knows nothing of
 // how a file is cut.
-ghost use Rattle.std.specs.Prelude.{◌≡◌, IfOk, string_bytes};
-ghost use Rattle.projects.specs.Told.{kind_letters, block_name, head_name, flaw_words, head_report, stray_report, twice_report, file_report};
+ghost use Rattle.std.specs.Prelude.{◌≡◌, Some, IfOk, string_bytes};
+ghost use Rattle.projects.specs.Told.{block_name, head_name, flaw_words, head_report, stray_report, twice_report, file_report};
 
 use crate::heads::{Head, HeadFault, HeadFlaw};
 use crate::sections::FileFault;
-use awl::names::{BlockKind, BlockName};
+use awl::names::BlockName;
 use reports::refused::{Spot, pointer};
 use std::alloc::{AllocError, Global};
+use std::fmt;
 
 // What is wrong with the file, and the line where it stands with a caret under the column.
 pub fn file_report(heap: Global, fault: FileFault, file: &[u8]) -> Result<String, AllocError>
@@ -20,33 +21,30 @@ pub fn file_report(heap: Global, fault: FileFault, file: &[u8]) -> Result<String
     }
 }
 
+// As heads have them, without the length of a data block: PB 3, DB 5.
+impl fmt::Display for Head {
+    ghost output = { λ h. Some (head_name h) };
+
+    fn fmt<W: fmt::Write>(&self, f: &mut fmt::Formatter<W>) -> fmt::Result {
+        match *self {
+            Head::Block(name) => write!(f, "{name}"),
+            Head::Data { number, .. } => write!(f, "DB {number}"),
+        }
+    }
+}
+
 // The block or data block as its head names it, without the length.
 pub fn head_name(heap: Global, head: Head) -> Result<String, AllocError>
     ensures value { IfOk result (λ s. string_bytes s ≡ head_name head) }
 {
-    match head {
-        Head::Block(name) => block_name(heap, name),
-        Head::Data { number, length: _ } => format!(in heap; "DB {number}"),
-    }
+    format!(in heap; "{head}")
 }
 
 // Kind and number: PB 3.
 pub fn block_name(heap: Global, name: BlockName) -> Result<String, AllocError>
     ensures value { IfOk result (λ s. string_bytes s ≡ block_name name) }
 {
-    let kind = kind_letters(name.kind);
-    let number = name.number;
-    format!(in heap; "{kind} {number}")
-}
-
-fn kind_letters(kind: BlockKind) -> &'static str
-    ensures value { result.now ≡ kind_letters kind }
-{
-    match kind {
-        BlockKind::Organisation => "OB",
-        BlockKind::Program => "PB",
-        BlockKind::Function => "FB",
-    }
+    format!(in heap; "{name}")
 }
 
 // A line that starts with a star and is no head.
@@ -84,9 +82,8 @@ fn twice_report(
 ) -> Result<String, AllocError>
     ensures value { IfOk result (λ s. string_bytes s ≡ twice_report name first line file.now) }
 {
-    let block = block_name(heap, name)?;
     let there = pointer(heap, Spot { line, column: 1 }, file)?;
-    format!(in heap; "twice at line {line}: {block} is given at line {first} already\n{there}")
+    format!(in heap; "twice at line {line}: {name} is given at line {first} already\n{there}")
 }
 
 // What is wrong with a head.

@@ -1,17 +1,13 @@
-use Rattle.std.proofs.Common.{sym, ◌∙◌}
-use Rattle.projects.proofs.Cutting.{named_here, named_more, named_end}
+use Rattle.std.proofs.Common.{ap, ◌∙◌, rules, tests}
+use Rattle.std.specs.Option.{option_map}
+use Rattle.std.proofs.lemmas.Iterator.{YieldsList-from_slice}
+use Rattle.std.proofs.lemmas.Iterator.Search.{find_from_yields_List}
+use Rattle.projects.specs.Sections.{seen_section, names}
+use Rattle.projects.specs.declared.sections.Section.{Section}
+use Rattle.projects.proofs.Cutting.{named_found}
 use Rattle.projects.proofs.sections.section_of.Goals as goal
-
-pub returns-then-names : goal.returns-then-names
-returns-then-names c =
-    let here = named_here c.args.name c.args.sections.now c.loop-i.i _ c.loop-i-test.true (sym c.if-names.ensures.value) in
-    record { value = sym here ∙ c.loop-i.invariant }
-
-pub loop-i-preserved : goal.loop-i-preserved
-loop-i-preserved c =
-    let more = named_more c.args.name c.args.sections.now c.loop-i.i _ c.loop-i-test.true (sym c.if-names.ensures.value) in
-    sym more ∙ c.loop-i.invariant
 
 pub returns : goal.returns
 returns c =
-    record { value = sym (named_end c.args.name c.args.sections.now c.loop-i.i c.loop-i-test.false) ∙ c.loop-i.invariant }
+    let found = find_from_yields_List (λ (s : Section). names s.head c.args.name) _ _ c.find.result c.find.ensures.ran (YieldsList-from_slice c.args.sections.now (cc)) (λ x r q k. search (rules, tests)) in
+    record { value = ap (option_map seen_section) (c.copied.ensures ∙ found) ∙ named_found c.args.name c.args.sections.now }
