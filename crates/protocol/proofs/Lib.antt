@@ -1,4 +1,3 @@
-mod Wording
 mod Counting
 mod Naming
 mod Spelling

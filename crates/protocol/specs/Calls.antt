@@ -7,7 +7,7 @@ use Rattle.protocol.specs.declared.calls.Call.TheVariants as call
 use Rattle.protocol.specs.declared.calls.ProjectCall.{ProjectCall}
 use Rattle.protocol.specs.declared.calls.ProjectCall.TheVariants.{Open, Write, Erase, Lay, Check, Word, Data}
 use Rattle.protocol.specs.declared.calls.NewHost.{NewHost}
-use Rattle.protocol.specs.declared.calls.NewHost.TheVariants.{Bench, Feed, MaskBench, MaskFeed}
+use Rattle.protocol.specs.declared.calls.NewHost.TheVariants.{Bench, Feed}
 use Rattle.protocol.specs.declared.calls.HostCall.{HostCall}
 use Rattle.protocol.specs.declared.calls.HostCall.TheVariants.{SetElapsed, SetInput, Input, Output, Elapsed, Taken, Outputs, Give, Advance}
 use Rattle.protocol.specs.declared.names.ProjectVerb.{ProjectVerb}
@@ -112,10 +112,10 @@ kind_size kind.MaskFeed = 5
 
 -- the host, by the words behind its kind
 abbrev pub new_host : HostKind → List ℕ → List ℕ → List ℕ → Option (NewHost (List ℕ))
-new_host kind.Bench w x y = two Bench (row (hex_of w)) (row (hex_of x))
-new_host kind.Feed w x y = option_map Feed (hex_of w)
-new_host kind.MaskBench w x y = three MaskBench (long w) (row (hex_of x)) (row (hex_of y))
-new_host kind.MaskFeed w x y = two MaskFeed (long w) (hex_of x)
+new_host kind.Bench w x y = two (Bench None) (row (hex_of w)) (row (hex_of x))
+new_host kind.Feed w x y = option_map (Feed None) (hex_of w)
+new_host kind.MaskBench w x y = three (λ bits. Bench (Some bits)) (long w) (row (hex_of x)) (row (hex_of y))
+new_host kind.MaskFeed w x y = two (λ bits. Feed (Some bits)) (long w) (hex_of x)
 
 -- no call has words too many or too few
 abbrev pub sized : {X : Type 0} → ℕ → List (List ℕ) → Option X → Option X
@@ -157,10 +157,8 @@ project_texts f (Data d) = Data d
 
 -- the same host, with its frame lines held in another way
 abbrev pub host_texts : {X Y : Type 0} → (X → Y) → NewHost X → NewHost Y
-host_texts f (Bench i o) = Bench i o
-host_texts f (Feed t) = Feed (f t)
-host_texts f (MaskBench b i o) = MaskBench b i o
-host_texts f (MaskFeed b t) = MaskFeed b (f t)
+host_texts f (Bench m i o) = Bench m i o
+host_texts f (Feed m t) = Feed m (f t)
 
 -- the same call, with its text held in another way
 abbrev pub texts : {X Y : Type 0} → (X → Y) → Call X → Call Y

@@ -1,6 +1,7 @@
 -- The words that are names. It assumes nothing.
 use Rattle.std.specs.Prelude.{ℕ, cond, List, [], ◌∷◌, Some, None, codes, Option}
 use Rattle.std.specs.Str.{bytes_eq}
+use Rattle.awl.specs.Names.{kind_letters}
 use Rattle.awl.specs.declared.names.BlockKind.{BlockKind}
 use Rattle.awl.specs.declared.names.BlockKind.TheVariants.{Organisation, Program, Function}
 use Rattle.protocol.specs.declared.names.Verb.{Verb}
@@ -71,12 +72,6 @@ host_kind_name MaskFeed = codes "maskfeed"
 unfoldable pub host_kind_of : List ℕ → Option HostKind
 host_kind_of bs = first_named host_kind_name (Bench ∷ Feed ∷ MaskBench ∷ MaskFeed ∷ []) bs
 
--- the word for each kind of block
-abbrev pub block_kind_name : BlockKind → List ℕ
-block_kind_name Organisation = codes "OB"
-block_kind_name Program = codes "PB"
-block_kind_name Function = codes "FB"
-
 -- the kind of block that the bytes name, or none
 unfoldable pub block_kind_of : List ℕ → Option BlockKind
-block_kind_of bs = first_named block_kind_name (Organisation ∷ Program ∷ Function ∷ []) bs
+block_kind_of bs = first_named kind_letters (Organisation ∷ Program ∷ Function ∷ []) bs

@@ -45,27 +45,18 @@ pub enum ProjectCall<Text> {
     },
 }
 
-// A host that is to take the place of the old one.
+// A host that is to take the place of the old one; the bits of its mask, if it is to have one.
 #[derive(Drop)]
 pub enum NewHost<Text> {
-    // host 0 bench 00.. 00..
+    // host 0 bench 00.. 00.., host 0 maskbench 4 00.. 00..
     Bench {
+        mask: Option<u32>,
         inputs: [u8; 128],
         outputs: [u8; 128],
     },
-    // host 0 feed 3030..
+    // host 0 feed 3030.., host 0 maskfeed 4 3030..
     Feed {
-        frames: Text,
-    },
-    // host 0 maskbench 4 00.. 00..
-    MaskBench {
-        bits: u32,
-        inputs: [u8; 128],
-        outputs: [u8; 128],
-    },
-    // host 0 maskfeed 4 3030..
-    MaskFeed {
-        bits: u32,
+        mask: Option<u32>,
         frames: Text,
     },
 }

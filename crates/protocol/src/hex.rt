@@ -22,7 +22,7 @@ pub(crate) fn hex(heap: Global, word: &[u8]) -> Result<Option<Vec<u8>>, AllocErr
 fn is_dash(word: &[u8]) -> bool
     ensures value { result ≡ is_dash word.now }
 {
-    word.len() == 1 && word[0] == b'-'
+    matches!(word, b"-")
 }
 
 // The bytes that digits spell, two a byte; none where a byte is no digit, or one digit is left over.
@@ -30,28 +30,22 @@ fn hex_bytes(heap: Global, digits: &[u8]) -> Result<Option<Vec<u8>>, AllocError>
     ensures value { IfOk result (λ o. option_map vec_items o ≡ hex_bytes digits.now) }
 {
     let mut bytes = Vec::new(heap);
-    let mut at = 0;
-    while at + 1 < digits.len() {
-        let Some(byte) = hex_byte(digits[at], digits[at + 1]) else {
+    let mut rest = digits;
+    while let [high, low, behind @ ..] = rest {
+        let Some(byte) = hex_byte(*high, *low) else {
             return Ok(None);
         };
         bytes.push(byte)?;
-        at += 2;
+        rest = behind;
     }
-    if at < digits.len() {
-        return Ok(None);
-    }
-    Ok(Some(bytes))
+    Ok(rest.is_empty().then_some(bytes))
 }
 
 // The byte that two digits spell.
 fn hex_byte(high: u8, low: u8) -> Option<u8>
     ensures value { result ≡ hex_byte (hex_digit high) (hex_digit low) }
 {
-    match (hex_digit(high), hex_digit(low)) {
-        (Some(high), Some(low)) => Some(high * 16 + low),
-        _ => None,
-    }
+    Some(hex_digit(high)? * 16 + hex_digit(low)?)
 }
 
 fn hex_digit(digit: u8) -> Option<u8>

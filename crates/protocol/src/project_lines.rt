@@ -8,8 +8,8 @@ ghost use Rattle.protocol.specs.declared.calls.ProjectCall.TheVariants.{Open, Wr
 
 use crate::calls::ProjectCall;
 use crate::hex::hex;
-use crate::names::{ProjectVerb, block_kind_of};
-use crate::words::{byte_number, number, short_number, word_at, word_count};
+use crate::names::{ProjectVerb, block_kind_named};
+use crate::words::{byte_number, number, word_at, word_count};
 use awl::names::BlockName;
 use std::alloc::{AllocError, Global};
 
@@ -91,10 +91,7 @@ fn write(
     let Some(block) = block_name(kind, block_number) else {
         return Ok(None);
     };
-    match hex(heap, text)? {
-        Some(text) => Ok(Some(ProjectCall::Write { block, text })),
-        None => Ok(None),
-    }
+    Ok(hex(heap, text)?.map(|text| ProjectCall::Write { block, text }))
 }
 
 fn erase(kind: &[u8], block_number: &[u8]) -> Option<ProjectCall<Vec<u8>>>
@@ -110,7 +107,7 @@ fn lay(block: &[u8], length: &[u8]) -> Option<ProjectCall<Vec<u8>>>
 {
     Some(ProjectCall::Lay {
         number: byte_number(block)?,
-        length: short_number(length)?,
+        length: number(length, 65535)? as u16,
     })
 }
 
@@ -136,7 +133,7 @@ fn block_name(kind: &[u8], block_number: &[u8]) -> Option<BlockName>
     ensures value { result ≡ block_of kind.now block_number.now }
 {
     Some(BlockName {
-        kind: block_kind_of(kind)?,
+        kind: block_kind_named(kind)?,
         number: byte_number(block_number)?,
     })
 }

@@ -3,30 +3,20 @@ ghost use Rattle.std.specs.Prelude.{◌≡◌, ℕ, ◌≤◌, [], length, IfSom
 ghost use Rattle.protocol.specs.Words.{words_of};
 ghost use Rattle.protocol.specs.Numbers.{number_within};
 
-use awl::bytes::{ByteClass, tail};
+use awl::bytes::ByteClass;
 
 // How many words a line has.
 pub(crate) fn word_count(line: &[u8]) -> usize
     ensures value { result ≡ length (words_of line.now) }
 {
-    let mut count = 1;
-    for byte in line {
-        if *byte == b' ' {
-            count += 1;
-        }
-    }
-    count
+    line.split(|byte| *byte == b' ').count()
 }
 
 // Word n of a line, from 0; no bytes where the line has fewer words.
 pub(crate) fn word_at(line: &[u8], n: usize) -> &[u8]
     ensures value { result.now ≡ slice_index_or (words_of line.now) n [] }
 {
-    let mut rest = line;
-    for passed in 0..n {
-        rest = tail(rest, ByteClass::Ink.front(rest) + 1);
-    }
-    &rest[0..ByteClass::Ink.front(rest)]
+    line.split(|byte| *byte == b' ').nth(n).unwrap_or(&[])
 }
 
 // The number that a word of digits writes, unless it is above `most`.
@@ -54,18 +44,5 @@ pub(crate) fn number(word: &[u8], most: u32) -> Option<u32>
 pub(crate) fn byte_number(word: &[u8]) -> Option<u8>
     ensures value { result ≡ number_within 255 word.now }
 {
-    match number(word, 255) {
-        Some(n) => Some(n as u8),
-        None => None,
-    }
-}
-
-// A number of two bytes.
-pub(crate) fn short_number(word: &[u8]) -> Option<u16>
-    ensures value { result ≡ number_within 65535 word.now }
-{
-    match number(word, 65535) {
-        Some(n) => Some(n as u16),
-        None => None,
-    }
+    Some(number(word, 255)? as u8)
 }
