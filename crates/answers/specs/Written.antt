@@ -2,9 +2,9 @@
 use Rattle.std.specs.Prelude.{ℕ, ◌+◌, ◌/◌, ◌%◌, cond, List, [], ◌∷◌, ◌++◌, vec_items, codes, decimal, nat_lt}
 use Rattle.std.specs.List.{flat_map}
 use Rattle.awl.specs.Refusals.{refusal_number}
-use Rattle.awl.specs.declared.names.BlockKind.{BlockKind}
-use Rattle.awl.specs.declared.names.BlockKind.TheVariants.{Organisation, Program, Function}
+use Rattle.awl.specs.Names.{block_name_text}
 use Rattle.awl.specs.declared.names.BlockName.{BlockName}
+use Rattle.walk.specs.Faults.{fault_number}
 use Rattle.answers.specs.declared.Answer.{Answer}
 use Rattle.answers.specs.declared.Answer.TheVariants.{Done, Yes, No, Number, Nothing, Refused, RefusedAt, Pass, Fault, Bytes, Words, BadLine}
 
@@ -20,12 +20,6 @@ hex_pair b = hex_char (b / 16) ∷ hex_char (b % 16) ∷ []
 abbrev pub hex_quad : ℕ → List ℕ
 hex_quad n = hex_pair (n / 256) ++ hex_pair (n % 256)
 
--- the word for each kind of block
-abbrev pub kind_name : BlockKind → List ℕ
-kind_name Organisation = codes "OB"
-kind_name Program = codes "PB"
-kind_name Function = codes "FB"
-
 -- refused N
 abbrev pub refused_text : ℕ → List ℕ
 refused_text number = codes "refused " ++ decimal number
@@ -37,8 +31,7 @@ refused_at_text number line column = codes "refused " ++ (decimal number ++ (cod
 -- K KIND N STATEMENT NUMBER
 abbrev pub fault_text : BlockName → ℕ → ℕ → List ℕ
 fault_text block statement number =
-    codes "K "
-    ++ (kind_name block.kind ++ (codes " " ++ (decimal block.number ++ (codes " " ++ (decimal statement ++ (codes " " ++ decimal number))))))
+    codes "K " ++ (block_name_text block ++ (codes " " ++ (decimal statement ++ (codes " " ++ decimal number))))
 
 -- each answer as it is written, without the end of its line
 abbrev pub written : Answer → List ℕ
@@ -50,7 +43,7 @@ written Nothing = codes "none"
 written (Refused r) = refused_text (refusal_number r)
 written (RefusedAt r line column) = refused_at_text (refusal_number r) line column
 written Pass = codes "pass"
-written (Fault block statement number) = fault_text block statement number
+written (Fault block statement fault) = fault_text block statement (fault_number fault)
 written (Bytes bs) = flat_map hex_pair bs
 written (Words ws) = flat_map hex_quad (vec_items ws)
 written BadLine = codes "bad line"
