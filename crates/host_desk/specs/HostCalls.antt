@@ -1,16 +1,12 @@
 -- What the host calls answer, and what they make of the host that is there. It assumes nothing.
-use Rattle.std.specs.Prelude.{◌≡◌, ℕ, Bool, true, false, List, map}
+use Rattle.std.specs.Prelude.{◌≡◌, ℕ, List, map}
 use Rattle.std.specs.List.{range_with_len}
 use Rattle.hosts.specs.Meaning.{Meaning, Advanced, given}
+use Rattle.answers.specs.Told.{yes_no}
 use Rattle.answers.specs.declared.Answer.{Answer}
-use Rattle.answers.specs.declared.Answer.TheVariants.{Done, Yes, No, Number, Bytes, BadLine}
+use Rattle.answers.specs.declared.Answer.TheVariants.{Done, Number, Bytes, BadLine}
 use Rattle.protocol.specs.declared.calls.HostCall.{HostCall}
 use Rattle.protocol.specs.declared.calls.HostCall.TheVariants.{SetElapsed, SetInput, Input, Output, Elapsed, Taken, Outputs, Give, Advance}
-
--- yes or no
-abbrev pub yes_no : Bool → Answer
-yes_no true = Yes
-yes_no false = No
 
 -- output bytes 0 to 127
 unfoldable pub output_row : Meaning → List ℕ

@@ -2,22 +2,23 @@
 use Rattle.std.specs.Prelude.{ℕ, Bool, true, false, cond, ◌&&◌, List, [], ◌∷◌, Some, None, Option, nat_lt}
 use Rattle.std.specs.Option.{option_map}
 use Rattle.awl.specs.declared.refusals.Refusal.TheVariants as refusal
-use Rattle.hosts.specs.declared.lines.Frame.{Frame}
+use Rattle.hosts.specs.declared.frames.Frame.{Frame}
 use Rattle.hosts.specs.Benches.{bench_of, bench_meaning, with_elapsed, with_input}
 use Rattle.hosts.specs.Feeds.{feed_of, feed_meaning, standing, zeros}
 use Rattle.hosts.specs.Frames.{accepted, frames}
 use Rattle.hosts.specs.Masks.{masked}
 use Rattle.hosts.specs.Meaning.{Meaning, below, given}
+use Rattle.answers.specs.Told.{yes_no}
 use Rattle.answers.specs.declared.Answer.{Answer}
 use Rattle.answers.specs.declared.Answer.TheVariants.{Done, Refused, BadLine}
 use Rattle.protocol.specs.declared.calls.HostCall.{HostCall}
 use Rattle.protocol.specs.declared.calls.HostCall.TheVariants.{SetElapsed, SetInput, Input, Output, Elapsed, Taken, Outputs, Give, Advance}
 use Rattle.protocol.specs.declared.calls.NewHost.{NewHost}
 use Rattle.protocol.specs.declared.calls.NewHost.TheVariants as new
-use Rattle.host_desk.specs.HostCalls.{yes_no, any_answer}
+use Rattle.host_desk.specs.HostCalls.{any_answer}
 use Rattle.host_desk.specs.declared.seats.Seat.{Seat}
 use Rattle.host_desk.specs.declared.slots.HostSlot.{HostSlot}
-use Rattle.host_desk.specs.declared.seats.Seat.TheVariants.{Bench, Feed as FeedSeat, MaskBench, MaskFeed}
+use Rattle.host_desk.specs.declared.seats.Seat.TheVariants.{ByHand, Fed}
 
 -- whether it is set by hand, masked or not; what it means; the frames still ahead of it
 pub record Seated : Type 0 where
@@ -35,24 +36,23 @@ feed_seated m fs = record { bench = false; meaning = m; ahead = fs }
 
 -- the host that is there
 abbrev pub seated : Seat → Seated
-seated (Bench b) = bench_seated (bench_meaning b)
-seated (FeedSeat f) = feed_seated (feed_meaning f) (standing f).ahead
-seated (MaskBench m) = bench_seated (masked m.bits (bench_meaning m.host))
-seated (MaskFeed m) = feed_seated (masked m.bits (feed_meaning m.host)) (standing m.host).ahead
+seated (ByHand m) = bench_seated (masked m.bits (bench_meaning m.host))
+seated (Fed m) = feed_seated (masked m.bits (feed_meaning m.host)) (standing m.host).ahead
+
+-- a host under a mask of these bits, or as it is
+abbrev pub under : Option ℕ → Meaning → Meaning
+under None m = m
+under (Some bits) m = masked bits m
 
 -- a new host: a bench has the bytes that are asked for and no time has elapsed, a feed has all of its frames ahead
 abbrev pub first_seated : NewHost (List ℕ) → Seated
-first_seated (new.Bench inputs outputs) = bench_seated (bench_of inputs 0 outputs)
-first_seated (new.Feed text) = feed_seated (feed_of zeros 0 zeros) (frames text)
-first_seated (new.MaskBench bits inputs outputs) = bench_seated (masked bits (bench_of inputs 0 outputs))
-first_seated (new.MaskFeed bits text) = feed_seated (masked bits (feed_of zeros 0 zeros)) (frames text)
+first_seated (new.Bench mask inputs outputs) = bench_seated (under mask (bench_of inputs 0 outputs))
+first_seated (new.Feed mask text) = feed_seated (under mask (feed_of zeros 0 zeros)) (frames text)
 
 -- a host is refused if it has frame lines that are not accepted
 abbrev pub is_accepted : NewHost (List ℕ) → Bool
-is_accepted (new.Bench inputs outputs) = true
-is_accepted (new.Feed text) = accepted text
-is_accepted (new.MaskBench bits inputs outputs) = true
-is_accepted (new.MaskFeed bits text) = accepted text
+is_accepted (new.Bench mask inputs outputs) = true
+is_accepted (new.Feed mask text) = accepted text
 
 -- the same host, with another meaning
 abbrev pub with_meaning : Seated → Meaning → Seated

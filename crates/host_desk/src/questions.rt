@@ -1,6 +1,6 @@
 // The calls that any host takes, of whichever kind it is. It knows nothing of the kinds.
 ghost use Rattle.std.specs.Prelude.{◌≡◌};
-ghost use Rattle.host_desk.specs.HostCalls.{any_answer, AnyAfter, yes_no, output_row};
+ghost use Rattle.host_desk.specs.HostCalls.{any_answer, AnyAfter, output_row};
 
 use answers::Answer;
 use hosts::Host;
@@ -12,15 +12,11 @@ pub(crate) fn any_answer<H: Host>(host: &mut H, call: HostCall) -> Answer
     ensures after { AnyAfter H.Host.meaning H.Host.gives H.Host.advances call host.old host.new }
 {
     match call {
-        HostCall::SetElapsed { elapsed: _ } => Answer::BadLine,
-        HostCall::SetInput {
-            number: _,
-            value: _,
-        } => Answer::BadLine,
+        HostCall::SetElapsed { .. } | HostCall::SetInput { .. } => Answer::BadLine,
         HostCall::Input { number } => Answer::Number(u32::from(host.input(number))),
         HostCall::Output { number } => Answer::Number(u32::from(host.output(number))),
         HostCall::Elapsed => Answer::Number(host.elapsed()),
-        HostCall::Taken { number } => yes_or_no(host.takes(number)),
+        HostCall::Taken { number } => host.takes(number).into(),
         HostCall::Outputs => Answer::Bytes(outputs(host)),
         HostCall::Give { number, value } => {
             host.give(number, value);
@@ -33,19 +29,13 @@ pub(crate) fn any_answer<H: Host>(host: &mut H, call: HostCall) -> Answer
     }
 }
 
-pub(crate) fn yes_or_no(yes: bool) -> Answer
-    ensures value { result ≡ yes_no yes }
-{
-    if yes { Answer::Yes } else { Answer::No }
-}
-
 // Output bytes 0 to 127.
 fn outputs<H: Host>(host: &H) -> [u8; 128]
     ensures value { result ≡ output_row (H.Host.meaning host.now) }
 {
     let mut row = [0; 128];
-    for n in 0..128u8 {
-        row[n as usize] = host.output(n);
+    for (n, byte) in row.iter_mut().enumerate() {
+        *byte = host.output(n as u8);
     }
     row
 }

@@ -1,11 +1,11 @@
-// The host that is there, of one of four kinds. It knows nothing of how a call is written.
+// The host that is there, of one of two kinds. It knows nothing of how a call is written.
 ghost use Rattle.std.specs.Prelude.{◌≡◌, is_ok, vec_items, MatchResult};
 ghost use Rattle.awl.specs.declared.refusals.Refusal.TheVariants.{Frame};
 ghost use Rattle.protocol.specs.Calls.{host_texts};
 ghost use Rattle.host_desk.specs.Seats.{seated, first_seated, is_accepted, call_answer, after_call};
-ghost use Rattle.host_desk.specs.declared.seats.Seat.TheVariants.{Bench as BenchSeat, Feed as FeedSeat, MaskBench, MaskFeed};
+ghost use Rattle.host_desk.specs.declared.seats.Seat.TheVariants.{ByHand};
 
-use crate::questions::{any_answer, yes_or_no};
+use crate::questions::any_answer;
 use answers::Answer;
 use awl::refusals::Refusal;
 use hosts::bench::Bench;
@@ -13,12 +13,11 @@ use hosts::feed::Feed;
 use hosts::mask::Mask;
 use protocol::calls::{HostCall, NewHost};
 
+// Each under a mask: one of no bits holds nothing back.
 #[derive(Drop)]
 pub(crate) enum Seat {
-    Bench(Bench),
-    Feed(Feed),
-    MaskBench(Mask<Bench>),
-    MaskFeed(Mask<Feed>),
+    ByHand(Mask<Bench>),
+    Fed(Mask<Feed>),
 }
 
 impl Seat {
@@ -28,20 +27,18 @@ impl Seat {
         ensures value { MatchResult result (λ s. seated s ≡ first_seated (host_texts vec_items host)) (λ e. e ≡ Frame) }
     {
         match host {
-            NewHost::Bench { inputs, outputs } => Ok(Seat::Bench(Bench::new(inputs, outputs))),
-            NewHost::Feed { frames } => match Feed::new(frames) {
-                Ok(feed) => Ok(Seat::Feed(feed)),
-                Err(_) => Err(Refusal::Frame),
-            },
-            NewHost::MaskBench {
-                bits,
+            NewHost::Bench {
+                mask,
                 inputs,
                 outputs,
-            } => Ok(Seat::MaskBench(Mask::new(Bench::new(inputs, outputs), bits))),
-            NewHost::MaskFeed { bits, frames } => match Feed::new(frames) {
-                Ok(feed) => Ok(Seat::MaskFeed(Mask::new(feed, bits))),
-                Err(_) => Err(Refusal::Frame),
-            },
+            } => {
+                let bench = Bench::new(inputs, outputs);
+                Ok(Seat::ByHand(Mask::new(bench, mask.unwrap_or(0))))
+            }
+            NewHost::Feed { mask, frames } => {
+                let feed = Feed::new(frames).map_err(|_| Refusal::Frame)?;
+                Ok(Seat::Fed(Mask::new(feed, mask.unwrap_or(0))))
+            }
         }
     }
 
@@ -51,56 +48,23 @@ impl Seat {
         ensures after { seated self.new ≡ after_call (seated self.old) call }
     {
         match self {
-            Seat::Bench(bench) => bench_answer(bench, call),
-            Seat::Feed(feed) => feed_answer(feed, call),
-            Seat::MaskBench(mask) => mask_bench_answer(mask, call),
-            Seat::MaskFeed(mask) => mask_feed_answer(mask, call),
+            Seat::ByHand(mask) => bench_answer(mask, call),
+            Seat::Fed(mask) => any_answer(mask, call),
         }
     }
 }
 
-// The answer of a bench.
-fn bench_answer(bench: &mut Bench, call: HostCall) -> Answer
-    ensures value { result ≡ call_answer (seated (BenchSeat bench.old)) call }
-    ensures after { seated (BenchSeat bench.new) ≡ after_call (seated (BenchSeat bench.old)) call }
-{
-    match call {
-        HostCall::SetElapsed { elapsed } => {
-            bench.set_elapsed(elapsed);
-            Answer::Done
-        }
-        HostCall::SetInput { number, value } => yes_or_no(bench.set_input(number, value)),
-        _ => any_answer(bench, call),
-    }
-}
-
-// The answer of a bench under a mask, which is set through the mask.
-fn mask_bench_answer(mask: &mut Mask<Bench>, call: HostCall) -> Answer
-    ensures value { result ≡ call_answer (seated (MaskBench mask.old)) call }
-    ensures after { seated (MaskBench mask.new) ≡ after_call (seated (MaskBench mask.old)) call }
+// The answer of a bench, which is set through its mask.
+fn bench_answer(mask: &mut Mask<Bench>, call: HostCall) -> Answer
+    ensures value { result ≡ call_answer (seated (ByHand mask.old)) call }
+    ensures after { seated (ByHand mask.new) ≡ after_call (seated (ByHand mask.old)) call }
 {
     match call {
         HostCall::SetElapsed { elapsed } => {
             mask.host_mut().set_elapsed(elapsed);
             Answer::Done
         }
-        HostCall::SetInput { number, value } => yes_or_no(mask.host_mut().set_input(number, value)),
+        HostCall::SetInput { number, value } => mask.host_mut().set_input(number, value).into(),
         _ => any_answer(mask, call),
     }
-}
-
-// The answer of a feed.
-fn feed_answer(feed: &mut Feed, call: HostCall) -> Answer
-    ensures value { result ≡ call_answer (seated (FeedSeat feed.old)) call }
-    ensures after { seated (FeedSeat feed.new) ≡ after_call (seated (FeedSeat feed.old)) call }
-{
-    any_answer(feed, call)
-}
-
-// The answer of a feed under a mask.
-fn mask_feed_answer(mask: &mut Mask<Feed>, call: HostCall) -> Answer
-    ensures value { result ≡ call_answer (seated (MaskFeed mask.old)) call }
-    ensures after { seated (MaskFeed mask.new) ≡ after_call (seated (MaskFeed mask.old)) call }
-{
-    any_answer(mask, call)
 }
