@@ -2,7 +2,7 @@
 ghost use Rattle.std.specs.Prelude.{◌≡◌, IfOk, vec_items, string_bytes, MatchResult, OnOk};
 ghost use Rattle.std.specs.Option.{option_map};
 ghost use Rattle.protocol.specs.Calls.{texts};
-ghost use Rattle.desk.specs.Desks.{desk_of, empty_desk, Answered, after_call, is_ended, line_of, Replied, after_line};
+ghost use Rattle.desk.specs.Desks.{desk_of, empty_desk, Answered, after_call, line_of, Replied, after_line};
 
 use answers::Answer;
 use host_desk::slots::HostSlot;
@@ -61,16 +61,8 @@ impl Desk {
 fn without_end(line: &[u8]) -> &[u8]
     ensures value { result.now ≡ line_of line.now }
 {
-    if is_ended(line) {
-        &line[0..line.len() - 1]
-    } else {
-        line
+    match line {
+        [front @ .., b'\n'] => front,
+        _ => line,
     }
-}
-
-// Whether byte 10 ends the line.
-fn is_ended(line: &[u8]) -> bool
-    ensures value { result ≡ is_ended line.now }
-{
-    line.len() >= 1 && line[line.len() - 1] == b'\n'
 }

@@ -9,12 +9,13 @@ use Rattle.store.specs.declared.store.Store.{Store}
 use Rattle.checker.specs.Project.{Project}
 use Rattle.checker.specs.Verdicts.{Judges}
 use Rattle.checker.specs.declared.verdicts.Verdict.{Verdict}
+use Rattle.answers.specs.Told.{told, word_told}
 use Rattle.answers.specs.declared.Answer.{Answer}
 use Rattle.answers.specs.declared.Answer.TheVariants.{Done, Refused, BadLine}
 use Rattle.protocol.specs.declared.calls.ProjectCall.{ProjectCall}
 use Rattle.protocol.specs.declared.calls.ProjectCall.TheVariants.{Open, Write, Erase, Lay, Check, Word, Data}
 use Rattle.project_desk.specs.declared.slots.ProjectSlot.{ProjectSlot}
-use Rattle.project_desk.specs.Told.{told, write_told, word_told, verdict_told, WordsTold}
+use Rattle.project_desk.specs.Told.{write_told, verdict_told, WordsTold}
 
 -- what a project holds: its number, its blocks by name and its data blocks by number, with the count of both
 pub record Held : Type 0 where

@@ -1,21 +1,14 @@
 -- What the store's answers are told as. It assumes nothing.
 use Rattle.std.specs.Prelude.{◌≡◌, ℕ, List, Some, None, Ok, Err, vec_items, Option, Result, Vec}
 use Rattle.std.specs.declared.alloc.Global.{Global}
-use Rattle.awl.specs.declared.refusals.Refusal.{Refusal}
 use Rattle.awl.specs.declared.refusals.Refusal.TheVariants as refusal
 use Rattle.reader.specs.Faults.{block_refusal, line_of_block, column_of_block}
 use Rattle.store.specs.declared.refusals.WriteRefusal.{WriteRefusal}
 use Rattle.store.specs.declared.refusals.WriteRefusal.TheVariants.{Text, NoFreePlace}
-use Rattle.walk.specs.Faults.{fault_number}
 use Rattle.checker.specs.declared.verdicts.Verdict.{Verdict}
 use Rattle.checker.specs.declared.verdicts.Verdict.TheVariants as verdict
 use Rattle.answers.specs.declared.Answer.{Answer}
-use Rattle.answers.specs.declared.Answer.TheVariants.{Done, Number, Nothing, Refused, RefusedAt, Pass, Fault, Words}
-
--- ok, or refused N
-abbrev pub told : Result (Unit {0}) Refusal → Answer
-told (Ok x) = Done
-told (Err r) = Refused r
+use Rattle.answers.specs.declared.Answer.TheVariants.{Done, Nothing, Refused, RefusedAt, Pass, Fault, Words}
 
 -- ok, or refused N LINE COLUMN for the text, or refused N where there is no place
 abbrev pub write_told : Result (Unit {0}) WriteRefusal → Answer
@@ -26,12 +19,7 @@ write_told (Err NoFreePlace) = Refused refusal.NoFreePlace
 -- pass, or K KIND N STATEMENT NUMBER
 abbrev pub verdict_told : Verdict → Answer
 verdict_told verdict.Pass = Pass
-verdict_told (verdict.Fault f) = Fault f.block f.statement (fault_number f.fault)
-
--- the number, or none
-abbrev pub word_told : Option ℕ → Answer
-word_told None = Nothing
-word_told (Some n) = Number n
+verdict_told (verdict.Fault f) = Fault f.block f.statement f.fault
 
 -- all words, or none
 abbrev pub WordsTold : Option (List ℕ) → Answer → Type 0

@@ -6,7 +6,7 @@ ghost use Rattle.protocol.specs.Calls.{project_texts};
 ghost use Rattle.project_desk.specs.Told.{WordsTold};
 ghost use Rattle.project_desk.specs.Projects.{held, CheckTold, Tells, after_call};
 
-use crate::telling::{done_told, verdict_told, word_told, write_told};
+use crate::telling::{verdict_told, write_told};
 use answers::Answer;
 use checker::check::check;
 use protocol::calls::ProjectCall;
@@ -26,16 +26,12 @@ pub(crate) fn answer(
     ensures after { MatchResult result (λ _. held store.new ≡ after_call (held store.old) (project_texts vec_items call)) (λ _. store.new ≡ store.old) }
 {
     match call {
-        ProjectCall::Open {
-            number: _,
-            statements: _,
-            words: _,
-        } => Ok(Answer::BadLine),
+        ProjectCall::Open { .. } => Ok(Answer::BadLine),
         ProjectCall::Write { block, text } => Ok(write_told(store.write(block, text.as_slice()))),
-        ProjectCall::Erase { block } => Ok(done_told(store.erase(block))),
-        ProjectCall::Lay { number, length } => Ok(done_told(store.lay(number, length))),
+        ProjectCall::Erase { block } => Ok(store.erase(block).into()),
+        ProjectCall::Lay { number, length } => Ok(store.lay(number, length).into()),
         ProjectCall::Check => Ok(verdict(store, places)),
-        ProjectCall::Word { data_block, number } => Ok(word_told(store.word(data_block, number))),
+        ProjectCall::Word { data_block, number } => Ok(store.word(data_block, number).into()),
         ProjectCall::Data { data_block } => words(heap, store, data_block),
     }
 }
@@ -55,8 +51,8 @@ fn verdict(store: &Store, places: &mut [Place]) -> Answer
 fn words(heap: Global, store: &Store, data_block: u8) -> Result<Answer, AllocError>
     ensures value { IfOk result (λ a. WordsTold (data_blocks store.now data_block) a) }
 {
-    match store.words(data_block) {
-        Some(words) => Ok(Answer::Words(words.to_vec(heap)?)),
-        None => Ok(Answer::Nothing),
-    }
+    let Some(words) = store.words(data_block) else {
+        return Ok(Answer::Nothing);
+    };
+    Ok(Answer::Words(words.to_vec(heap)?))
 }

@@ -58,20 +58,19 @@ impl ProjectSlot {
         ensures value { IfOk result (λ a. EmptyTells (project_texts vec_items call) a) }
         ensures after { MatchResult result (λ _. project_in self.new ≡ empty_after (project_texts vec_items call)) (λ _. project_in self.new ≡ project_in self.old) }
     {
-        match call {
-            ProjectCall::Open {
-                number,
-                statements,
-                words,
-            } => match opened(heap, number, statements, words)? {
-                Some(store) => {
-                    self.store = Some(store);
-                    Ok(Answer::Done)
-                }
-                None => Ok(Answer::Refused(Refusal::ShortTable)),
-            },
-            _ => Ok(Answer::BadLine),
-        }
+        let ProjectCall::Open {
+            number,
+            statements,
+            words,
+        } = call
+        else {
+            return Ok(Answer::BadLine);
+        };
+        let Some(store) = opened(heap, number, statements, words)? else {
+            return Ok(Answer::Refused(Refusal::ShortTable));
+        };
+        self.store = Some(store);
+        Ok(Answer::Done)
     }
 }
 
@@ -86,8 +85,5 @@ fn opened(
 {
     let statements = vec![in heap; Statement::Stop; statements as usize]?;
     let words = vec![in heap; 0; words as usize]?;
-    match Store::open(number, statements, words) {
-        Ok(store) => Ok(Some(store)),
-        Err(_) => Ok(None),
-    }
+    Ok(Store::open(number, statements, words).ok())
 }

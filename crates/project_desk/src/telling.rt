@@ -1,21 +1,11 @@
 // What the store's answers are told as. It knows nothing of the calls.
 ghost use Rattle.std.specs.Prelude.{◌≡◌};
-ghost use Rattle.project_desk.specs.Told.{told, write_told, word_told, verdict_told};
+ghost use Rattle.project_desk.specs.Told.{write_told, verdict_told};
 
 use answers::Answer;
 use awl::refusals::Refusal;
 use checker::verdicts::Verdict;
 use store::refusals::WriteRefusal;
-
-// A call that is done, or refused by a number.
-pub(crate) fn done_told(answer: Result<(), Refusal>) -> Answer
-    ensures value { result ≡ told answer }
-{
-    match answer {
-        Ok(()) => Answer::Done,
-        Err(refusal) => Answer::Refused(refusal),
-    }
-}
 
 // A write that is done, or refused: for its text with the line and the column.
 pub(crate) fn write_told(answer: Result<(), WriteRefusal>) -> Answer
@@ -32,16 +22,6 @@ pub(crate) fn write_told(answer: Result<(), WriteRefusal>) -> Answer
     }
 }
 
-// A word, or none.
-pub(crate) fn word_told(answer: Option<u16>) -> Answer
-    ensures value { result ≡ word_told answer }
-{
-    match answer {
-        Some(word) => Answer::Number(u32::from(word)),
-        None => Answer::Nothing,
-    }
-}
-
 // Pass, or the first fault.
 pub(crate) fn verdict_told(verdict: Verdict) -> Answer
     ensures value { result ≡ verdict_told verdict }
@@ -51,7 +31,7 @@ pub(crate) fn verdict_told(verdict: Verdict) -> Answer
         Verdict::Fault(found) => Answer::Fault {
             block: found.block,
             statement: found.statement,
-            number: found.fault.number(),
+            fault: found.fault,
         },
     }
 }
