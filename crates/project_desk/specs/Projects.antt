@@ -7,8 +7,7 @@ use Rattle.store.specs.Calls.{write_answer, blocks_written, count_written, erase
 use Rattle.store.specs.Held.{Blocks, DataBlocks, number_of, blocks, block_count, data_blocks, data_count, word_of}
 use Rattle.store.specs.declared.store.Store.{Store}
 use Rattle.checker.specs.Project.{Project}
-use Rattle.checker.specs.Verdicts.{Judges}
-use Rattle.checker.specs.declared.verdicts.Verdict.{Verdict}
+use Rattle.checker.specs.Verdicts.{Verdict, Judges}
 use Rattle.answers.specs.Told.{told, word_told}
 use Rattle.answers.specs.declared.Answer.{Answer}
 use Rattle.answers.specs.declared.Answer.TheVariants.{Done, Refused, BadLine}

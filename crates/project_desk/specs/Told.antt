@@ -5,8 +5,7 @@ use Rattle.awl.specs.declared.refusals.Refusal.TheVariants as refusal
 use Rattle.reader.specs.Faults.{block_refusal, line_of_block, column_of_block}
 use Rattle.store.specs.declared.refusals.WriteRefusal.{WriteRefusal}
 use Rattle.store.specs.declared.refusals.WriteRefusal.TheVariants.{Text, NoFreePlace}
-use Rattle.checker.specs.declared.verdicts.Verdict.{Verdict}
-use Rattle.checker.specs.declared.verdicts.Verdict.TheVariants as verdict
+use Rattle.checker.specs.Verdicts.{Verdict}
 use Rattle.answers.specs.declared.Answer.{Answer}
 use Rattle.answers.specs.declared.Answer.TheVariants.{Done, Nothing, Refused, RefusedAt, Pass, Fault, Words}
 
@@ -18,8 +17,8 @@ write_told (Err NoFreePlace) = Refused refusal.NoFreePlace
 
 -- pass, or K KIND N STATEMENT NUMBER
 abbrev pub verdict_told : Verdict → Answer
-verdict_told verdict.Pass = Pass
-verdict_told (verdict.Fault f) = Fault f.block f.statement f.fault
+verdict_told (Ok pass) = Pass
+verdict_told (Err f) = Fault f.block f.statement f.fault
 
 -- all words, or none
 abbrev pub WordsTold : Option (List ℕ) → Answer → Type 0

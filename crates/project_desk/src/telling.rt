@@ -27,8 +27,8 @@ pub(crate) fn verdict_told(verdict: Verdict) -> Answer
     ensures value { result ≡ verdict_told verdict }
 {
     match verdict {
-        Verdict::Pass => Answer::Pass,
-        Verdict::Fault(found) => Answer::Fault {
+        Ok(()) => Answer::Pass,
+        Err(found) => Answer::Fault {
             block: found.block,
             statement: found.statement,
             fault: found.fault,
