@@ -21,6 +21,21 @@ pub fn file_report(heap: Global, fault: FileFault, file: &[u8]) -> Result<String
     }
 }
 
+// What is wrong with a head.
+impl fmt::Display for HeadFlaw {
+    ghost output = { λ f. Some (flaw_words f) };
+
+    fn fmt<W: fmt::Write>(&self, f: &mut fmt::Formatter<W>) -> fmt::Result {
+        f.write_str(match self {
+            HeadFlaw::Byte => "a byte that is no printable character",
+            HeadFlaw::Kind => "OB, PB, FB or DB has to stand here",
+            HeadFlaw::Number => "a number from 0 to 255 has to stand here",
+            HeadFlaw::Length => "a number of words has to stand here",
+            HeadFlaw::Extra => "a word too many",
+        })
+    }
+}
+
 // As heads have them, without the length of a data block: PB 3, DB 5.
 impl fmt::Display for Head {
     ghost output = { λ h. Some (head_name h) };
@@ -56,10 +71,9 @@ fn head_report(
 ) -> Result<String, AllocError>
     ensures value { IfOk result (λ s. string_bytes s ≡ head_report line fault file.now) }
 {
-    let column = fault.column;
-    let words = flaw_words(fault.flaw);
+    let HeadFault { flaw, column } = fault;
     let there = pointer(heap, Spot { line, column }, file)?;
-    format!(in heap; "no head at line {line}, column {column}: {words}\n{there}")
+    format!(in heap; "no head at line {line}, column {column}: {flaw}\n{there}")
 }
 
 // A line that belongs to no block.
@@ -84,17 +98,4 @@ fn twice_report(
 {
     let there = pointer(heap, Spot { line, column: 1 }, file)?;
     format!(in heap; "twice at line {line}: {name} is given at line {first} already\n{there}")
-}
-
-// What is wrong with a head.
-fn flaw_words(flaw: HeadFlaw) -> &'static str
-    ensures value { result.now ≡ flaw_words flaw }
-{
-    match flaw {
-        HeadFlaw::Byte => "a byte that is no printable character",
-        HeadFlaw::Kind => "OB, PB, FB or DB has to stand here",
-        HeadFlaw::Number => "a number from 0 to 255 has to stand here",
-        HeadFlaw::Length => "a number of words has to stand here",
-        HeadFlaw::Extra => "a word too many",
-    }
 }
