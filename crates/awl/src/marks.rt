@@ -5,7 +5,8 @@ ghost use Rattle.awl.specs.MarkText.{is_mark};
 
 use crate::bytes::ByteClass;
 
-// A capital, then up to five capitals or digits: the first `size` of its bytes. The others are 0.
+// A capital, then up to five capitals or digits: the first `size` of its bytes. The others are 0. A row with its size, since
+// statements are copied with their marks and nothing is allocated.
 #[derive(Clone, Copy, PartialEq, Eq)]
 pub struct Mark {
     pub bytes: [u8; 6],

@@ -11,7 +11,8 @@ use crate::{Host, frames};
 
 mod taking;
 
-// Four bytes each way; it takes every output byte. The frames ahead are the lines of `text` from byte `at` on.
+// Four bytes each way; it takes every output byte. The frames ahead are the lines of `text` from byte `at` on: a number, since
+// an iterator over them would borrow from the text beside it.
 #[derive(Drop)]
 pub struct Feed {
     text: Vec<u8>,

@@ -96,7 +96,7 @@ fn hex(digits: &[u8]) -> u32
     number
 }
 
-// The value of a digit; 0 for a byte that is none.
+// The value of a digit; 0 for a byte that is none. By hand, since the library's digits have capitals too.
 fn digit(c: u8) -> u8
     ensures value { result ≡ digit c }
     ensures bound { result < 16 }

@@ -176,6 +176,8 @@ impl Typed<'_> {
         }
     }
 
+    // The next four differ in their letters, which stand in a pattern, and a pattern is no parameter.
+
     // S and = store a bit.
     fn stored_bit(self) -> Result<Bit, WordFault>
         ensures value { map_ok bit_operand result ≡ operand_among is_bit self.entry.end (seen_words self.entry.words) }

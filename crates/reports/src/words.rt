@@ -1,4 +1,5 @@
-// What is wrong with a text, in plain words. It knows nothing of where it stands.
+// What is wrong with a text, in plain words. Functions and no displays of the faults: these are of crates below, to which it is
+// all one how a person is told. It knows nothing of where it stands.
 ghost use Rattle.std.specs.Prelude.{◌≡◌};
 ghost use Rattle.reports.specs.Words.{missing_words, malformed_words, word_words, line_words, block_words, refusal_words};
 

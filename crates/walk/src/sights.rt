@@ -4,7 +4,8 @@ ghost use Rattle.std.specs.Prelude.{◌≡◌, ℕ, ◌≤◌, length};
 use crate::faults::Fault;
 use crate::flows::Flow;
 
-// What the walk found at a statement.
+// What the walk found at a statement. Two flags and no case for both: that the walk comes, and that it comes bare, are each
+// exact by themselves.
 #[derive(Clone, Copy)]
 pub struct Sight {
     pub flow: Flow,
