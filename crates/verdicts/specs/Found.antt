@@ -1,6 +1,6 @@
 -- What is told of the first fault that a check finds. It assumes nothing.
 use Rattle.std.specs.Prelude.{ℕ, ◌-◌, List, [], ◌++◌, map, Some, None, codes, decimal, Option, slice_index_or}
-use Rattle.reader.specs.Lines.{lines_of}
+use Rattle.lines.specs.Lines.{lines_of}
 use Rattle.reports.specs.Shown.{shown_byte}
 use Rattle.projects.specs.Told.{block_name}
 use Rattle.walk.specs.Faults.{fault_number}

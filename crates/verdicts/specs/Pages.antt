@@ -1,13 +1,11 @@
 -- What is said of a project file. It assumes nothing.
 use Rattle.std.specs.Prelude.{◌≡◌, ℕ, Bool, false, List, ◌++◌, None, Ok, Err, string_bytes, codes, decimal, Result}
-use Rattle.projects.specs.Lines.{line_of}
+use Rattle.projects.specs.Origins.{line_of}
 use Rattle.projects.specs.Sections.{Cut, section_named}
 use Rattle.projects.specs.Told.{file_report}
 use Rattle.projects.specs.declared.sections.FileFault.{FileFault}
 use Rattle.checker.specs.Counts.{Counts}
-use Rattle.checker.specs.Verdicts.{Judges, is_pass}
-use Rattle.checker.specs.declared.verdicts.Verdict.{Verdict}
-use Rattle.checker.specs.declared.verdicts.Verdict.TheVariants.{Pass, Fault}
+use Rattle.checker.specs.Verdicts.{Verdict, Judges, is_pass}
 use Rattle.store.specs.declared.store.Store.{Store}
 use Rattle.verdicts.specs.Found.{found_report}
 use Rattle.verdicts.specs.Loading.{Held, held, load_answer, load_after}
@@ -33,8 +31,8 @@ passed_text n =
 
 -- a pass with its sizes, or the first fault with its line in the file
 abbrev pub said : Verdict → Sizes → List Cut → List ℕ → List ℕ
-said Pass n cs file = passed_text n
-said (Fault f) n cs file = found_report f (line_of f.statement (section_named f.block cs)) file
+said (Ok pass) n cs file = passed_text n
+said (Err f) n cs file = found_report f (line_of f.statement (section_named f.block cs)) file
 
 abbrev pub verdict_text : Judged → List Cut → List ℕ → List ℕ
 verdict_text j cs file = said j.verdict j.sizes cs file

@@ -5,7 +5,7 @@ use Rattle.reader.specs.Faults.{block_refusal, line_of_block, column_of_block}
 use Rattle.reader.specs.declared.faults.BlockFault.{BlockFault}
 use Rattle.reports.specs.Refused.{report_at}
 use Rattle.reports.specs.Words.{block_words, refusal_words}
-use Rattle.projects.specs.Lines.{below}
+use Rattle.projects.specs.Origins.{below}
 use Rattle.projects.specs.Told.{head_name}
 use Rattle.verdicts.specs.declared.loading.Cause.{Cause}
 use Rattle.verdicts.specs.declared.loading.Cause.TheVariants.{Text, Whole}

@@ -4,8 +4,7 @@ ghost use Rattle.std.specs.Prelude.{◌≡◌, IfOk, string_bytes};
 ghost use Rattle.verdicts.specs.Found.{fault_words, place_told, placed_report, placeless_report, found_report};
 
 use checker::verdicts::Found;
-use projects::told::block_name;
-use reports::lines::line_numbered;
+use reports::numbered::line_numbered;
 use reports::shown::shown;
 use std::alloc::{AllocError, Global};
 use walk::faults::Fault;
@@ -40,7 +39,7 @@ fn place(heap: Global, found: Found, line: usize) -> Result<String, AllocError>
     ensures value { IfOk result (λ s. string_bytes s ≡ place_told found line) }
 {
     let number = found.fault.number();
-    let block = block_name(heap, found.block)?;
+    let block = found.block;
     let statement = found.statement;
     format!(in heap; "K{number} at line {line}, {block}, statement {statement}")
 }

@@ -17,6 +17,17 @@ pub enum Cause {
     Whole(Refusal), // 7, 12 or 14: the section as it is
 }
 
+impl From<WriteRefusal> for Cause {
+    ghost from_gives = { λ w r. r ≡ write_cause w };
+
+    fn from(refusal: WriteRefusal) -> Cause {
+        match refusal {
+            WriteRefusal::Text(fault) => Cause::Text(fault),
+            WriteRefusal::NoFreePlace => Cause::Whole(Refusal::NoFreePlace),
+        }
+    }
+}
+
 // A section that is refused, with the line of its head.
 #[derive(Clone, Copy)]
 pub struct Rejected {
@@ -30,8 +41,8 @@ pub fn load(store: &mut Store, sections: &[Section]) -> Result<(), Rejected>
     ensures value { result ≡ load_answer (held store.old) (map seen_section sections.now) }
     ensures after { held store.new ≡ load_after (held store.old) (map seen_section sections.now) }
 {
-    for i in 0..sections.len() {
-        put(store, sections[i])?;
+    for section in sections {
+        put(store, *section)?;
     }
     Ok(())
 }
@@ -44,30 +55,17 @@ fn put(store: &mut Store, section: Section) -> Result<(), Rejected>
     let head = section.head;
     let line = section.line;
     match head {
-        Head::Block(name) => match store.write(name, section.text) {
-            Ok(()) => Ok(()),
-            Err(refusal) => Err(Rejected {
-                head,
-                line,
-                cause: write_cause(refusal),
-            }),
-        },
-        Head::Data { number, length } => match store.lay(number, length) {
-            Ok(()) => Ok(()),
-            Err(refusal) => Err(Rejected {
+        Head::Block(name) => store.write(name, section.text).map_err(|refusal| Rejected {
+            head,
+            line,
+            cause: Cause::from(refusal),
+        }),
+        Head::Data { number, length } => {
+            store.lay(number, length).map_err(|refusal| Rejected {
                 head,
                 line,
                 cause: Cause::Whole(refusal),
-            }),
-        },
-    }
-}
-
-fn write_cause(refusal: WriteRefusal) -> Cause
-    ensures value { result ≡ write_cause refusal }
-{
-    match refusal {
-        WriteRefusal::Text(fault) => Cause::Text(fault),
-        WriteRefusal::NoFreePlace => Cause::Whole(Refusal::NoFreePlace),
+            })
+        }
     }
 }

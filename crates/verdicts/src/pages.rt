@@ -15,14 +15,14 @@ use crate::rejected::rejected_report;
 use awl::statements::Statement;
 use checker::check::{check, walked};
 use checker::verdicts::Verdict;
-use projects::lines::line_of;
+use projects::origins::line_of;
 use projects::sections::{Section, Uncut, sections};
 use projects::told::file_report;
 use std::alloc::{AllocError, Global};
 use store::store::Store;
 use walk::places::Place;
 
-// What is said of a file, and whether it passes.
+// What is said of a file, and whether it passes. Not an enum of the two: the text is written either way.
 #[derive(Drop)]
 pub struct Page {
     pub text: String,
@@ -99,12 +99,11 @@ fn judge(store: &Store, places: &mut [Place]) -> Judged
     ensures walked { Counts store.now result.sizes.walked }
 {
     let blocks = store.block_count();
-    match (check(store, places), walked(store, places)) {
-        (Ok(verdict), Ok(walked)) => Judged {
-            verdict,
-            sizes: Sizes { blocks, walked },
-        },
-        _ => unreachable(),
+    let verdict = check(store, places).unwrap();
+    let walked = walked(store, places).unwrap();
+    Judged {
+        verdict,
+        sizes: Sizes { blocks, walked },
     }
 }
 
@@ -118,11 +117,11 @@ fn verdict_page(
     ensures value { IfOk result (λ p. Says p (verdict_text judged (map seen_section sections.now) file.now) (is_pass judged.verdict)) }
 {
     match judged.verdict {
-        Verdict::Pass => Ok(Page {
+        Ok(()) => Ok(Page {
             text: passed_text(heap, judged.sizes)?,
             passed: true,
         }),
-        Verdict::Fault(found) => {
+        Err(found) => {
             let line = line_of(sections, found.block, found.statement);
             Ok(Page {
                 text: found_report(heap, found, line, file)?,
@@ -146,8 +145,5 @@ fn new_store(heap: Global) -> Result<Store, AllocError>
 {
     let statements = vec![in heap; Statement::Stop; 8160]?;
     let words = vec![in heap; 0u16; 4096]?;
-    match Store::open(0, statements, words) {
-        Ok(store) => Ok(store),
-        Err(_) => unreachable(),
-    }
+    Ok(Store::open(0, statements, words).unwrap())
 }

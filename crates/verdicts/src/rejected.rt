@@ -5,7 +5,6 @@ ghost use Rattle.verdicts.specs.Rejected.{text_report, whole_report, cause_repor
 
 use crate::loading::{Cause, Rejected};
 use awl::refusals::Refusal;
-use projects::told::head_name;
 use reader::faults::BlockFault;
 use reports::refused::{Spot, report_at};
 use reports::words::{block_words, refusal_words};
@@ -15,9 +14,9 @@ use std::alloc::{AllocError, Global};
 pub fn rejected_report(heap: Global, rejected: Rejected, file: &[u8]) -> Result<String, AllocError>
     ensures value { IfOk result (λ s. string_bytes s ≡ rejected_report rejected file.now) }
 {
-    let name = head_name(heap, rejected.head)?;
     let report = cause_report(heap, rejected.line, rejected.cause, file)?;
-    format!(in heap; "{name}: {report}")
+    let head = rejected.head;
+    format!(in heap; "{head}: {report}")
 }
 
 // Why the section below a head line is refused.

@@ -1,5 +1,5 @@
 use Rattle.std.proofs.Common.{◌≡◌, ◌-◌, [], ◌++◌, map, get_or, string_bytes, codes, ap, ◌∙◌}
-use Rattle.reader.specs.Lines.{lines_of}
+use Rattle.lines.specs.Lines.{lines_of}
 use Rattle.reports.proofs.Showing.{made_equal}
 use Rattle.reports.specs.Shown.{shown_byte}
 use Rattle.verdicts.specs.Found.{fault_words, place_told, placed_report}

@@ -3,9 +3,9 @@ use Rattle.projects.specs.Sections.{seen_section}
 use Rattle.verdicts.specs.Loading.{held, load_answer, load_after}
 use Rattle.verdicts.proofs.loading.load.Given as goal
 
-abbrev pub invariant-loop-i : goal.invariant-loop-i
-invariant-loop-i l =
-    (load_answer (held l.store) (map seen_section (drop l.i l.sections))
+abbrev pub invariant-loop-section : goal.invariant-loop-section
+invariant-loop-section l =
+    (load_answer (held l.store) (map seen_section (drop l.section-index l.sections))
     ≡ load_answer (held l.initial.store) (map seen_section l.sections))
-    × (load_after (held l.store) (map seen_section (drop l.i l.sections))
+    × (load_after (held l.store) (map seen_section (drop l.section-index l.sections))
     ≡ load_after (held l.initial.store) (map seen_section l.sections))
