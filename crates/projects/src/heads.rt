@@ -1,6 +1,6 @@
 // The head lines of a project file, each of which names a block or a data block. It knows nothing of what stands below
 // a head.
-ghost use Rattle.std.specs.Prelude.{◌≡◌, ℕ, ◌+◌, length};
+ghost use Rattle.std.specs.Prelude.{◌≡◌};
 ghost use Rattle.lexer.specs.Letters.{letters_of};
 ghost use Rattle.lexer.specs.Values.{byte_of};
 ghost use Rattle.lexer.specs.Words.{seen, seen_words};

@@ -1,5 +1,5 @@
 // Where the statements of a project stand in its file. It knows nothing of faults.
-ghost use Rattle.std.specs.Prelude.{◌≡◌, ℕ, map};
+ghost use Rattle.std.specs.Prelude.{◌≡◌, map};
 ghost use Rattle.projects.specs.Origins.{line_below, line_of};
 ghost use Rattle.projects.specs.Sections.{seen_section, section_named};
 

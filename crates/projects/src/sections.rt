@@ -1,6 +1,6 @@
 // A project file cut into sections at its head lines, each with the lines below it as a part of the file. It knows
 // nothing of what the lines of a block say.
-ghost use Rattle.std.specs.Prelude.{◌≡◌, ℕ, ◌+◌, ◌^◌, ◌<◌, min, map, length};
+ghost use Rattle.std.specs.Prelude.{◌≡◌, ◌+◌, ◌^◌, ◌<◌, min, map, length};
 ghost use Rattle.std.specs.Option.{option_map};
 ghost use Rattle.parser.specs.Answers.{map_ok, map_err};
 ghost use Rattle.lines.specs.Lines.{lines_of};

@@ -1,5 +1,5 @@
 // The words of a line, and the numbers and bytes that a word writes. It knows nothing of calls.
-ghost use Rattle.std.specs.Prelude.{◌≡◌, ℕ, ◌≤◌, [], length, IfSome, slice_index_or};
+ghost use Rattle.std.specs.Prelude.{◌≡◌, ◌≤◌, [], length, IfSome, slice_index_or};
 ghost use Rattle.protocol.specs.Words.{words_of};
 ghost use Rattle.protocol.specs.Numbers.{number_within};
 

@@ -53,7 +53,7 @@ fn placeless_report(heap: Global, fault: Fault) -> Result<String, AllocError>
     format!(in heap; "K{number}: {words}\n")
 }
 
-// What a fault means.
+// What a fault means. No display of it: to the walk it is all one how a person is told.
 fn fault_words(fault: Fault) -> &'static str
     ensures value { result.now ≡ fault_words fault }
 {

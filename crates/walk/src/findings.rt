@@ -1,5 +1,5 @@
 // A block's walk as a value of its own, made of the block alone. It knows nothing of other blocks.
-ghost use Rattle.std.specs.Prelude.{◌≡◌, ℕ, ◌-◌, ◌<◌, ◌≤◌, length, take, drop, MatchOption, slice_index_or};
+ghost use Rattle.std.specs.Prelude.{◌≡◌, ◌-◌, ◌<◌, ◌≤◌, length, take, drop, MatchOption, slice_index_or};
 ghost use Rattle.walk.specs.Findings.{Sighted, SightedTo, Found, unseen};
 ghost use Rattle.walk.specs.Flows.{flows_of};
 ghost use Rattle.walk.specs.Search.{Exact};

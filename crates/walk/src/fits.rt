@@ -1,6 +1,6 @@
 // A block that is fit to be walked, and what its walk meets at a place and where it goes on from there. It knows nothing
 // of how the walk is searched.
-ghost use Rattle.std.specs.Prelude.{◌≡◌, ℕ, ◌<◌, ◌≤◌, length, Some, Decides, MatchOption};
+ghost use Rattle.std.specs.Prelude.{◌≡◌, ◌<◌, ◌≤◌, length, Decides, MatchOption};
 ghost use Rattle.walk.specs.Flows.{flows_of};
 ghost use Rattle.walk.specs.Places.{fault_at, on_from, jump_from};
 ghost use Rattle.walk.specs.Walk.{Fit, AimedInto, flow_at};

@@ -1,5 +1,5 @@
 // Which places of a block are marked. It knows nothing of which are to be.
-ghost use Rattle.std.specs.Prelude.{◌≡◌, ◌-◌, ◌<◌, ◌≤◌, false, true, not, length, replicate, Decides, slice_index_or, slice_set};
+ghost use Rattle.std.specs.Prelude.{◌≡◌, ◌<◌, ◌≤◌, false, true, not, length, replicate, Decides, slice_index_or, slice_set};
 ghost use Rattle.walk.specs.Search.{Marked, spot};
 
 use crate::places::Place;

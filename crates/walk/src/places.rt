@@ -1,5 +1,5 @@
 // Places of a block's walk, and where the walk goes on from one. It knows nothing of how the walk is searched.
-ghost use Rattle.std.specs.Prelude.{◌≡◌, ℕ, ◌+◌, ◌-◌, ◌<◌, ◌≤◌, true};
+ghost use Rattle.std.specs.Prelude.{◌≡◌, ◌+◌, ◌<◌, true};
 ghost use Rattle.walk.specs.Places.{stepped, jumped, place_at};
 ghost use Rattle.walk.specs.Walk.{goes_on, leaves, jumps_to};
 

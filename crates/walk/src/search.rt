@@ -1,6 +1,6 @@
 // The search of a block's walk: each place is marked when it is first come to, and then waits on the stack to be visited.
 // It knows nothing of what is wrong at a place.
-ghost use Rattle.std.specs.Prelude.{◌≡◌, ℕ, ◌+◌, ◌*◌, ◌<◌, ◌≤◌, ◌∷◌, length, drop, IfSome};
+ghost use Rattle.std.specs.Prelude.{◌≡◌, ◌+◌, ◌*◌, ◌<◌, ◌≤◌, ◌∷◌, length, drop, IfSome};
 ghost use Rattle.walk.specs.Flows.{flows_of};
 ghost use Rattle.walk.specs.Search.{waiting_on, Hunt, Exact, Marked, spot, unmarked, marking, joining};
 

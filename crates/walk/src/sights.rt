@@ -1,5 +1,5 @@
 // What a walk found, statement by statement. It knows nothing of how it is found.
-ghost use Rattle.std.specs.Prelude.{◌≡◌, ℕ, ◌≤◌, length};
+ghost use Rattle.std.specs.Prelude.{◌≡◌, ◌≤◌, length};
 
 use crate::faults::Fault;
 use crate::flows::Flow;
