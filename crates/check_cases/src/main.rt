@@ -25,10 +25,11 @@ fn main(rt: HostRuntime) -> anyhow::Result<()> {
 fn answers(heap: Global, input: &[u8]) -> Result<String, AllocError> {
     let mut out = String::new(heap);
     let mut lines = Lines::of(input);
-    while let Some(head) = lines.next() {
-        let (file, behind) = lines.rest().split_at(case_size(lines.rest()));
-        out.push_str(answer(heap, head, file)?.as_str())?;
-        lines = Lines::of(behind);
+    while let Some(line) = lines.next() {
+        if line.first() == Some(&b'=') {
+            let (file, _) = lines.rest().split_at(case_size(lines.rest()));
+            out.push_str(answer(heap, line, file)?.as_str())?;
+        }
     }
     Ok(out)
 }
