@@ -41,9 +41,6 @@ from_entered slots true x j h = (refl, from_bit (call_of slots x) j h)
 from_entered slots false x j h = absurd (none_in j h)
 
 module _ (s : Store) (b : BlockName) where
-  pub enters_none : EntersTo s b 0 0
-  enters_none = record { only = λ j h. absurd (none_in j h); all = λ j t low high e. absurd (omega arith) }
-
   sight_only : (t j : ℕ) (x : Sight) → Sighted (flows_in (project_of s) b) t x → In (entered_by (slot_of s) x) j → Enters s b j t
   sight_only t j x seen h =
       let e = from_entered (slot_of s) x.bare x.flow j h in
@@ -72,9 +69,6 @@ module _ (s : Store) (b : BlockName) where
   }
 
 module _ (s : Store) where
-  pub calls_none : (calls : List ℕ) → CallsTo s calls 0
-  calls_none calls = record { only = λ i j b l n h. absurd (omega arith); all = λ i j t b l n e. absurd (omega arith) }
-
   -- one slot more, with its block
   pub calls_more : (calls : List ℕ) (i out n : ℕ) (b : BlockName) → i < length calls → name_at s i ≡ Some b → n ≡ length (flows_in (project_of s) b) →
       EntersTo s b n out → CallsTo s calls i → CallsTo s (set calls i out) (i + 1)

@@ -23,7 +23,7 @@ use Rattle.checker.specs.Chains.{In}
 use Rattle.checker.specs.Inside.{BadAt, FirstIn, JudgesIn}
 use Rattle.checker.specs.Joins.{Reached, FirstTo, JudgesTo, FirstHere, JudgesHere}
 use Rattle.checker.specs.Project.{Project, project_of, Holds, flows_in, outermost, Met, at, k9}
-use Rattle.checker.specs.Verdicts.{NotAfter, Passes, First, Verdict, Judges, is_pass}
+use Rattle.checker.specs.Verdicts.{NotAfter, Passes, First, Verdict, Judges}
 use Rattle.checker.specs.declared.verdicts.Found.{Found}
 use Rattle.checker.proofs.Chaining.{walk_chain, chain_held, chain_start, bad_met, met_bad, met_chain, some_same}
 use Rattle.checker.proofs.Fitting.{slot_low, held_slot}
@@ -212,8 +212,3 @@ judges_unstarted s None f e told = subst (λ (g : Found). First (project_of s) g
     same : (g h : Found) → ◌≡◌ {A = Result ℕ Found} (Err g) (Err h) → h ≡ g
     same g h q = cc
 judges_unstarted s (Some i) f e told = cc
-
--- a right verdict is pass exactly where the project passes
-pub judges_exact : (p : Project) (v : Verdict) → Judges p v → Decides (is_pass v) (Passes p)
-judges_exact p (Ok pass) j = (λ e. j, λ h. refl)
-judges_exact p (Err f) j = (λ e. absurd (both_ways _ refl e), λ h. absurd (h f.block f.statement (fault_number f.fault) j.met))

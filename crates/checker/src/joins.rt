@@ -31,6 +31,89 @@ const NO_START: Found = Found {
     fault: Fault::NoStart,
 };
 
+// A survey of a store that has an OB 1, with the slots that chains of calls enter, and those that ten calls lead into.
+#[derive(Drop)]
+struct Join<'a> {
+    survey: &'a Survey<'a>,
+    reach: SlotSet,
+    last: SlotSet,
+}
+
+impl Survey<'_> {
+    // For each slot the slots of the blocks that its block enters.
+    fn call_table(&self) -> [SlotSet; 32]
+        requires { FoundTo self.now.store.now self.now.findings 32 }
+        ensures value { CallsTo self.now.store.now result 32 }
+    {
+        let mut calls = [SlotSet::NONE; 32];
+        for (slot, finding) in self.findings.iter().enumerate() {
+            if self.store.name_at(slot as u8).is_some() {
+                calls[slot] = entered_from(self.store, finding);
+            }
+        }
+        calls
+    }
+
+    // The slots of the blocks that chains of calls enter; none where there is no OB 1.
+    pub(crate) fn reach(&self) -> SlotSet
+        requires { FoundTo self.now.store.now self.now.findings 32 }
+        ensures value { Reach self.now.store.now result }
+    {
+        let Some(start) = self.store.find(OUTERMOST) else {
+            return SlotSet::NONE;
+        };
+        entered(&self.call_table(), start)
+    }
+
+    // The verdict on the store.
+    pub(crate) fn verdict(&self) -> Verdict
+        requires { FoundTo self.now.store.now self.now.findings 32 }
+        ensures value { Judges (project_of self.now.store.now) result }
+    {
+        let start = self.store.find(OUTERMOST).ok_or(NO_START)?;
+        let calls = self.call_table();
+        let join = Join {
+            survey: self,
+            reach: entered(&calls, start),
+            last: tenth(&calls, start),
+        };
+        join.first().map_or(Ok(()), Err)
+    }
+}
+
+impl Join<'_> {
+    // The first fault of the block in a slot: none where the slot has no block, or one that is not entered.
+    fn first_at(&self, slot: u8, finding: &Finding) -> Option<Found>
+        requires reached { Reached self.now.survey.now.store.now self.now.reach self.now.last }
+        requires start { Holds (project_of self.now.survey.now.store.now) outermost }
+        requires slot { slot < 32 }
+        requires of { (b : Name) → name_at self.now.survey.now.store.now slot ≡ Some b → IsOf finding.now self.now.survey.now.store.now b }
+        ensures value { JudgesHere self.now.survey.now.store.now slot result }
+    {
+        match self.survey.store.name_at(slot) {
+            Some(name) if self.reach.has(slot) => {
+                first_in(self.survey.store, name, finding, self.last.has(slot))
+            }
+            _ => None,
+        }
+    }
+
+    // The first fault of all blocks that are entered.
+    fn first(&self) -> Option<Found>
+        requires found { FoundTo self.now.survey.now.store.now self.now.survey.now.findings 32 }
+        requires reached { Reached self.now.survey.now.store.now self.now.reach self.now.last }
+        requires start { Holds (project_of self.now.survey.now.store.now) outermost }
+        ensures value { JudgesTo self.now.survey.now.store.now 32 result }
+    {
+        let mut best = None;
+        for (slot, finding) in self.survey.findings.iter().enumerate() {
+            let here = self.first_at(slot as u8, finding);
+            best = lesser(best, here);
+        }
+        best
+    }
+}
+
 // The slot of the block that a statement's call enters, as a set; empty where it enters none that is held.
 fn entered_by(store: &Store, sight: Sight) -> SlotSet
     ensures value { result ≡ entered_by (slot_of store.now) sight }
@@ -90,87 +173,4 @@ fn first_in(store: &Store, name: BlockName, finding: &Finding, deep: bool) -> Op
         }
     }
     None
-}
-
-impl Survey<'_> {
-    // For each slot the slots of the blocks that its block enters.
-    fn call_table(&self) -> [SlotSet; 32]
-        requires { FoundTo self.now.store.now self.now.findings 32 }
-        ensures value { CallsTo self.now.store.now result 32 }
-    {
-        let mut calls = [SlotSet::NONE; 32];
-        for (slot, finding) in self.findings.iter().enumerate() {
-            if self.store.name_at(slot as u8).is_some() {
-                calls[slot] = entered_from(self.store, finding);
-            }
-        }
-        calls
-    }
-
-    // The slots of the blocks that chains of calls enter; none where there is no OB 1.
-    pub(crate) fn reach(&self) -> SlotSet
-        requires { FoundTo self.now.store.now self.now.findings 32 }
-        ensures value { Reach self.now.store.now result }
-    {
-        let Some(start) = self.store.find(OUTERMOST) else {
-            return SlotSet::NONE;
-        };
-        entered(&self.call_table(), start)
-    }
-
-    // The verdict on the store.
-    pub(crate) fn verdict(&self) -> Verdict
-        requires { FoundTo self.now.store.now self.now.findings 32 }
-        ensures value { Judges (project_of self.now.store.now) result }
-    {
-        let start = self.store.find(OUTERMOST).ok_or(NO_START)?;
-        let calls = self.call_table();
-        let join = Join {
-            survey: self,
-            reach: entered(&calls, start),
-            last: tenth(&calls, start),
-        };
-        join.first().map_or(Ok(()), Err)
-    }
-}
-
-// A survey of a store that has an OB 1, with the slots that chains of calls enter, and those that ten calls lead into.
-#[derive(Drop)]
-struct Join<'a> {
-    survey: &'a Survey<'a>,
-    reach: SlotSet,
-    last: SlotSet,
-}
-
-impl Join<'_> {
-    // The first fault of the block in a slot: none where the slot has no block, or one that is not entered.
-    fn first_at(&self, slot: u8, finding: &Finding) -> Option<Found>
-        requires reached { Reached self.now.survey.now.store.now self.now.reach self.now.last }
-        requires start { Holds (project_of self.now.survey.now.store.now) outermost }
-        requires slot { slot < 32 }
-        requires of { (b : Name) → name_at self.now.survey.now.store.now slot ≡ Some b → IsOf finding.now self.now.survey.now.store.now b }
-        ensures value { JudgesHere self.now.survey.now.store.now slot result }
-    {
-        match self.survey.store.name_at(slot) {
-            Some(name) if self.reach.has(slot) => {
-                first_in(self.survey.store, name, finding, self.last.has(slot))
-            }
-            _ => None,
-        }
-    }
-
-    // The first fault of all blocks that are entered.
-    fn first(&self) -> Option<Found>
-        requires found { FoundTo self.now.survey.now.store.now self.now.survey.now.findings 32 }
-        requires reached { Reached self.now.survey.now.store.now self.now.reach self.now.last }
-        requires start { Holds (project_of self.now.survey.now.store.now) outermost }
-        ensures value { JudgesTo self.now.survey.now.store.now 32 result }
-    {
-        let mut best = None;
-        for (slot, finding) in self.survey.findings.iter().enumerate() {
-            let here = self.first_at(slot as u8, finding);
-            best = lesser(best, here);
-        }
-        best
-    }
 }

@@ -1,5 +1,5 @@
 -- How many blocks the slots hold. Assumes nothing.
-use Rattle.std.proofs.Common.{◌≡◌, ℕ, zero, suc, ◌+◌, ◌<◌, ◌≤◌, true, false, List, [], ◌∷◌, length, drop, set, is_some, Some, None, Option, filter, cond, sym, refl, ap, ◌∙◌, arith}
+use Rattle.std.proofs.Common.{◌≡◌, ℕ, zero, suc, ◌+◌, ◌<◌, ◌≤◌, List, [], ◌∷◌, length, drop, set, is_some, Some, None, Option, filter, cond, sym, refl, ap, ◌∙◌, arith}
 use Rattle.std.specs.Option.{option_to_list}
 use Rattle.std.proofs.lemmas.List.{at_drop_more, length-append}
 use Rattle.awl.specs.declared.names.BlockName.{BlockName}
@@ -33,15 +33,6 @@ names-set (x ∷ xs) (suc i) s h =
     let old = length-append (option_to_list x.name) (names_in xs) in
     let new = length-append (option_to_list x.name) (names_in (set xs i s)) in
     omega arith
-
--- a slot with a name counts one, and one without it none
-pub counts_one : (o : Option BlockName) → is_some o ≡ true → length (option_to_list o) ≡ 1
-counts_one None h = let z : ◌≡◌ {A = ℕ} 0 1 = cc in absurd (omega arith)
-counts_one (Some n) h = refl
-
-pub counts_none : (o : Option BlockName) → is_some o ≡ false → length (option_to_list o) ≡ 0
-counts_none None h = refl
-counts_none (Some n) h = let z : ◌≡◌ {A = ℕ} 0 1 = cc in absurd (omega arith)
 
 at_most_one : (o : Option BlockName) → length (option_to_list o) ≤ 1
 at_most_one None = omega arith

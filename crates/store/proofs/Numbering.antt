@@ -1,12 +1,12 @@
 -- The data slots, and what a data block more adds to them. Assumes nothing.
-use Rattle.std.proofs.Common.{◌≡◌, ℕ, suc, ◌+◌, ◌*◌, ◌<◌, ◌≤◌, Bool, true, false, cond, eqb, List, [], ◌∷◌, ◌++◌, length, get_or, take, drop, set, replicate, is_some, Some, None, Option, sym, refl, ap, ◌∙◌, subst, inl, inr, arith}
+use Rattle.std.proofs.Common.{◌≡◌, ℕ, suc, ◌+◌, ◌*◌, ◌<◌, ◌≤◌, Bool, true, false, cond, eqb, List, [], ◌∷◌, ◌++◌, length, get_or, take, drop, set, replicate, is_some, Some, None, Option, sym, refl, ap, ◌∙◌, subst, inl, arith}
 use mathlib.Core.Path.{fun_ext}
 use lib.Seq.{paste}
 use Rattle.std.specs.Option.{option_map, option_or}
 use Rattle.std.specs.List.{position, position_from}
 use Rattle.std.proofs.lemmas.Iterator.Adapters.{position_from-zero}
 use Rattle.std.proofs.lemmas.List.{get_or-set_same, get_or-set_other, length-take-le, length-replicate, take_more_set, take-replicate}
-use Rattle.std.proofs.lemmas.Bool.{cases_eq, eqb-true, eqb-false, eq-eqb, ne_eqb}
+use Rattle.std.proofs.lemmas.Bool.{eqb-true, eqb-false, eq-eqb, ne_eqb}
 use Rattle.store.specs.Slots.{bare, data_slot_from, data_slot_in, words_in, Sized}
 use Rattle.store.specs.declared.slots.DataSlot.{DataSlot}
 use Rattle.store.specs.Calls.{SameBlocks}
@@ -77,19 +77,6 @@ pub data_other : (ds : List DataSlot) (count : ℕ) (d : DataSlot) (number : ℕ
 data_other ds count d number h ne =
     data_more ds count d number h
     ∙ (ap (λ (b : Bool). option_or (data_slot_in ds count number) (cond b (Some count) None)) (ne_eqb d.number number ne) ∙ or_none (data_slot_in ds count number))
-
--- every data block laid still has 1 to 256 words
-pub sized_more : (ds : List DataSlot) (count : ℕ) (d : DataSlot) → count < length ds → Sized ds count → 1 ≤ d.size → d.size ≤ 256 → Sized (set ds count d) (count + 1)
-sized_more ds count d h sized some few i l =
-    elim (cases_eq i count) [
-      | inl e ↦
-          let here = ap (λ (x : DataSlot). x.size) (ap (λ (j : ℕ). get_or (set ds count d) j bare) e ∙ get_or-set_same ds count d bare h) in
-          (omega arith, omega arith)
-      | inr ne ↦
-          let old = sized i (omega arith) in
-          let same = ap (λ (x : DataSlot). x.size) (get_or-set_other ds count i d bare ne) in
-          (omega (arith, old.0), omega (arith, old.1))
-    ]
 
 -- the words of the other data blocks stay, and those of the new one are the run
 pub words_kept : (ds : List DataSlot) (count : ℕ) (d : DataSlot) (table run : List ℕ) (n i : ℕ) → Sized ds count → count * 256 ≤ length table → n ≤ length run → i < count → words_in (set ds count d) (paste table (count * 256) run n) i ≡ words_in ds table i

@@ -1,15 +1,12 @@
-use Rattle.std.proofs.Common.{ℕ, ◌+◌, sym, ap, ◌∙◌, subst, arith}
+use Rattle.std.proofs.Common.{◌+◌, sym, ap, ◌∙◌, subst, arith}
 use lib.Bits.{bit_or}
 use Rattle.walk.specs.declared.sights.Sight.{Sight}
 use Rattle.walk.specs.Findings.{Sighted}
 use Rattle.checker.specs.Joins.{EntersTo}
 use Rattle.checker.specs.Project.{project_of, flows_in}
-use Rattle.checker.proofs.Entering.{enters_none, enters_more}
+use Rattle.checker.proofs.Entering.{enters_more}
 use Rattle.checker.proofs.Outwards.{told_count, told_here}
 use Rattle.checker.proofs.joins.entered_from.Goals as goal
-
-pub loop-sight-init : goal.loop-sight-init
-loop-sight-init c b of = enters_none c.args.store.now b
 
 pub loop-sight-preserved : goal.loop-sight-preserved
 loop-sight-preserved c b of =
@@ -24,8 +21,3 @@ loop-sight-preserved c b of =
     let seen = subst (λ (x : Sight). Sighted (flows_in (project_of store) b) (i + 1) x) (sym (told_here f told i _ are c.loop-sight-test.true)) sighted in
     subst (EntersTo store b (i + 1)) (sym (c.bitor-out.ensures.bits ∙ ap (bit_or c.loop-sight.out) c.entered_by.ensures.value))
     (enters_more store b i c.loop-sight.out _ seen (c.loop-sight.invariant b of))
-
-pub returns : goal.returns
-returns c =
-    let count = told_count c.args.finding.now c.sights-sight-items.result.now c.sights-sight-items.ensures.value in
-    record { value = λ b of. subst (λ (n : ℕ). EntersTo c.args.store.now b n c.loop-sight.out) (omega arith) (c.loop-sight.invariant b of) }

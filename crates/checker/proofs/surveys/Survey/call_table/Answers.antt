@@ -1,13 +1,10 @@
-use Rattle.std.proofs.Common.{ℕ, ◌+◌, List, length, sym, refl, ap, ◌∙◌, subst, arith}
+use Rattle.std.proofs.Common.{ℕ, ◌+◌, List, length, sym, ap, ◌∙◌, subst, arith}
 use Rattle.std.proofs.lemmas.List.{length-set}
 use Rattle.checker.specs.Joins.{CallsTo}
-use Rattle.checker.proofs.Entering.{calls_none, calls_more, calls_skip}
+use Rattle.checker.proofs.Entering.{calls_more, calls_skip}
 use Rattle.checker.proofs.Fitting.{some_is, none_is}
 use Rattle.checker.proofs.surveys.Survey.call_table.Goals as goal
 use Rattle.checker.proofs.surveys.Survey.call_table.Goals.{then-is_some, else-is_some}
-
-pub loop-slot-init : goal.loop-slot-init
-loop-slot-init c = (calls_none c.args.self.now.store.now _, refl)
 
 pub loop-slot-preserved : goal.loop-slot-preserved
 loop-slot-preserved c =

@@ -1,33 +1,14 @@
-use Rattle.std.proofs.Common.{ℕ, ◌+◌, ◌*◌, List, length, drop, set, replicate, vec_items, refl, ap, ◌∙◌, arith, length-set}
+use Rattle.std.proofs.Common.{ℕ, ◌+◌, ◌*◌, List, length, drop, set, replicate, vec_items, refl, ap, ◌∙◌, arith}
 use mathlib.Core.Path.{fun_ext}
 use Rattle.std.specs.Option.{option_map}
 use Rattle.std.proofs.lemmas.List.{length-replicate}
 use Rattle.store.specs.Held.{data_blocks}
 use Rattle.store.specs.Slots.{data_slot_in, words_in}
 use Rattle.store.specs.declared.slots.DataSlot.{DataSlot}
-use Rattle.store.proofs.Numbering.{sized_more, laid_more, unlaid, same_blocks}
+use Rattle.store.proofs.Numbering.{laid_more, unlaid, same_blocks}
 use Rattle.store.proofs.Pasting.{paste_behind}
 use Rattle.store.proofs.Spelling.{refilled_paste}
 use Rattle.store.proofs.store.Store.add_data.Goals as goal
-
-pub invariant_of-self : goal.invariant_of-self
-invariant_of-self c =
-    let s = c.args.self.now in
-    let slot : DataSlot = record { number = c.args.number; size = c.args.size } in
-    let count = s.data_slot_count in
-    let room = c.requires.room in
-    record {
-      statement_room = s.statement_room;
-      word_room = s.word_room;
-      slot_count = s.slot_count;
-      data_slot_count = length-set s.data_slots s.laid slot ∙ s.data_slot_count;
-      few = omega arith;
-      single = s.single;
-      emptied = s.emptied;
-      small = s.small;
-      readable = s.readable;
-      sized = sized_more s.data_slots s.laid slot (omega arith) s.sized c.requires.some c.requires.few;
-    }
 
 pub returns : goal.returns
 unfolding data_blocks
