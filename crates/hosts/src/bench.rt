@@ -44,10 +44,6 @@ impl Host for Bench {
 
     ghost beyond = { Prim.search rules };
 
-    fn width(&self) -> u8 {
-        Self::W
-    }
-
     fn input(&self, n: u8) -> u8 {
         self.image.input(n)
     }

@@ -30,7 +30,10 @@ pub trait Host {
 
     // The width W.
     fn width(&self) -> u8
-        ensures value { result ≡ W };
+        ensures value { result ≡ W }
+    {
+        Self::W
+    }
 
     // Input byte n.
     fn input(&self, n: u8) -> u8

@@ -48,10 +48,6 @@ impl<H: Host> Host for Mask<H> {
 
     ghost beyond = { Prim.search rules };
 
-    fn width(&self) -> u8 {
-        self.host.width()
-    }
-
     fn input(&self, n: u8) -> u8 {
         self.host.input(n)
     }
