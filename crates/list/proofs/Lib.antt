@@ -1,1 +1,2 @@
+mod Aligning
 mod Listing

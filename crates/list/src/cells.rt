@@ -3,22 +3,14 @@
 ghost use Rattle.std.specs.Prelude.{◌≡◌, IfOk, string_bytes};
 ghost use Rattle.std.specs.Option.{option_map};
 ghost use Rattle.awl.specs.Written.{mark_text};
-ghost use Rattle.list.specs.Shown.{right_aligned, left_aligned, mark_cell};
+ghost use Rattle.list.specs.Shown.{left_aligned, mark_cell};
 
 use awl::marks::Mark;
 use reports::shown::shown;
 use std::alloc::{AllocError, Global};
 
-// The text with spaces in front up to a width.
-pub fn right_aligned(heap: Global, text: &str, width: usize) -> Result<String, AllocError>
-    ensures value { IfOk result (λ s. string_bytes s ≡ right_aligned width text.now) }
-{
-    let spaces = " ".repeat(heap, width.saturating_sub(text.len()))?;
-    format!(in heap; "{spaces}{text}")
-}
-
-// The text with spaces behind up to a width.
-pub fn left_aligned(heap: Global, text: &str, width: usize) -> Result<String, AllocError>
+// The text with spaces behind up to a width. Not by the width of a format, which counts characters: bytes are counted.
+fn left_aligned(heap: Global, text: &str, width: usize) -> Result<String, AllocError>
     ensures value { IfOk result (λ s. string_bytes s ≡ left_aligned width text.now) }
 {
     let spaces = " ".repeat(heap, width.saturating_sub(text.len()))?;

@@ -7,7 +7,7 @@ ghost use Rattle.reader.specs.Listed.{entry, listed};
 ghost use Rattle.list.specs.Rows.{statement_row, statement_rows, lost_row, lost_target_row, lost_rows};
 ghost use Rattle.list.specs.Shown.{right_aligned};
 
-use crate::cells::{mark_cell, right_aligned};
+use crate::cells::mark_cell;
 use crate::typed::statement_text;
 use awl::statements::{Statement, Target};
 use lines::Lines;
@@ -47,8 +47,7 @@ fn statement_row(heap: Global, number: usize, line: Line, text: &[u8]) -> Result
 fn number_cell(heap: Global, number: usize, width: usize) -> Result<String, AllocError>
     ensures value { IfOk result (λ s. string_bytes s ≡ right_aligned width (decimal number)) }
 {
-    let digits = format!(in heap; "{number}")?;
-    right_aligned(heap, digits.as_str(), width)
+    format!(in heap; "{number:>width$}")
 }
 
 // A row for each jump whose mark no statement carries.
