@@ -4,7 +4,6 @@ use Rattle.std.specs.List.{flat_map}
 use Rattle.awl.specs.Refusals.{refusal_number}
 use Rattle.awl.specs.Names.{block_name_text}
 use Rattle.awl.specs.declared.names.BlockName.{BlockName}
-use Rattle.walk.specs.Faults.{fault_number}
 use Rattle.answers.specs.declared.Answer.{Answer}
 use Rattle.answers.specs.declared.Answer.TheVariants.{Done, Yes, No, Number, Nothing, Refused, RefusedAt, Pass, Fault, Bytes, Words, BadLine}
 
@@ -43,7 +42,7 @@ written Nothing = codes "none"
 written (Refused r) = refused_text (refusal_number r)
 written (RefusedAt r line column) = refused_at_text (refusal_number r) line column
 written Pass = codes "pass"
-written (Fault block statement fault) = fault_text block statement (fault_number fault)
+written (Fault block statement number) = fault_text block statement number
 written (Bytes bs) = flat_map hex_pair bs
 written (Words ws) = flat_map hex_quad (vec_items ws)
 written BadLine = codes "bad line"

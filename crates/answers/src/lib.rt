@@ -10,7 +10,6 @@ use awl::refusals::Refusal;
 use hex::{write_bytes, write_words};
 use std::alloc::{AllocError, Global};
 use std::fmt;
-use walk::faults::Fault;
 
 mod hex;
 
@@ -29,10 +28,11 @@ pub enum Answer {
         column: usize,
     }, // refused 3 1 3
     Pass,
+    // The fault by its number: any that a caller knows can be written, so that no crate of faults is needed here.
     Fault {
         block: BlockName,
         statement: u8,
-        fault: Fault,
+        number: u8,
     }, // K OB 1 0 9
     Bytes([u8; 128]), // two digits each
     Words(Vec<u16>), // four digits each
@@ -75,11 +75,8 @@ impl fmt::Display for Answer {
             Answer::Fault {
                 block,
                 statement,
-                fault,
-            } => {
-                let number = fault.number();
-                write!(f, "K {block} {statement} {number}")
-            }
+                number,
+            } => write!(f, "K {block} {statement} {number}"),
             Answer::Bytes(bytes) => write_bytes(bytes, f),
             Answer::Words(words) => write_words(words.as_slice(), f),
             Answer::BadLine => f.write_str("bad line"),

@@ -5,6 +5,7 @@ use Rattle.awl.specs.declared.refusals.Refusal.TheVariants as refusal
 use Rattle.reader.specs.Faults.{block_refusal, line_of_block, column_of_block}
 use Rattle.store.specs.declared.refusals.WriteRefusal.{WriteRefusal}
 use Rattle.store.specs.declared.refusals.WriteRefusal.TheVariants.{Text, NoFreePlace}
+use Rattle.walk.specs.Faults.{fault_number}
 use Rattle.checker.specs.Verdicts.{Verdict}
 use Rattle.answers.specs.declared.Answer.{Answer}
 use Rattle.answers.specs.declared.Answer.TheVariants.{Done, Nothing, Refused, RefusedAt, Pass, Fault, Words}
@@ -18,7 +19,7 @@ write_told (Err NoFreePlace) = Refused refusal.NoFreePlace
 -- pass, or K KIND N STATEMENT NUMBER
 abbrev pub verdict_told : Verdict → Answer
 verdict_told (Ok pass) = Pass
-verdict_told (Err f) = Fault f.block f.statement f.fault
+verdict_told (Err f) = Fault f.block f.statement (fault_number f.fault)
 
 -- all words, or none
 abbrev pub WordsTold : Option (List ℕ) → Answer → Type 0

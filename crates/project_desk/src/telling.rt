@@ -31,7 +31,7 @@ pub(crate) fn verdict_told(verdict: Verdict) -> Answer
         Err(found) => Answer::Fault {
             block: found.block,
             statement: found.statement,
-            fault: found.fault,
+            number: found.fault.number(),
         },
     }
 }

@@ -48,7 +48,8 @@ fn hex_byte(high: u8, low: u8) -> Option<u8>
     Some(hex_digit(high)? * 16 + hex_digit(low)?)
 }
 
-// By hand, since the library's digits have capitals too.
+// By hand, since the library's digits have capitals too. A frame line's digits are read in another crate, which this one
+// doesn't see: a crate for these lines alone would be no plainer.
 fn hex_digit(digit: u8) -> Option<u8>
     ensures value { result ≡ hex_digit digit }
     ensures bound { IfSome result (λ n. n < 16) }
