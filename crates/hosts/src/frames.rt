@@ -1,7 +1,7 @@
 // Frame lines: which texts are accepted, and the frames that their lines write. It knows nothing of hosts, and keeps no
 // place in a text.
 
-ghost use Rattle.std.specs.Prelude.{◌≡◌, ◌^◌, ◌<◌, ◌≤◌, ◌||◌, true, [], ◌∷◌, length, drop, Some, None, IfSome};
+ghost use Rattle.std.specs.Prelude.{◌≡◌, ◌+◌, ◌^◌, ◌<◌, ◌≤◌, ◌||◌, true, [], ◌∷◌, length, drop, Some, None, IfSome};
 ghost use Rattle.std.specs.List.{list_all};
 ghost use Rattle.lines.specs.Lines.{lines_of};
 ghost use Rattle.hosts.specs.Frames.{is_decimal, is_a_to_f, digit, hex, formed_byte, well_formed, frame_of, frames, accepted};
@@ -73,14 +73,25 @@ fn frame_of(line: &[u8]) -> Frame
     ensures value { result ≡ frame_of line.now }
 {
     Frame {
-        elapsed: hex(&line[0..8]),
+        elapsed: hex_at(line, 0, 8),
         inputs: [
-            hex(&line[9..11]) as u8,
-            hex(&line[11..13]) as u8,
-            hex(&line[13..15]) as u8,
-            hex(&line[15..17]) as u8,
+            hex_at(line, 9, 2) as u8,
+            hex_at(line, 11, 2) as u8,
+            hex_at(line, 13, 2) as u8,
+            hex_at(line, 15, 2) as u8,
         ],
     }
+}
+
+// The number that so many digits of a line write, from a place on.
+#[tactic(auto, using(crate::proofs::Hexes::hex_part))]
+fn hex_at(line: &[u8], from: usize, count: usize) -> u32
+    requires few { count ≤ 8 }
+    requires within { from + count ≤ length line.now }
+    ensures value { result ≡ hex line.now from count }
+    ensures bound { result < 16 ^ count }
+{
+    hex(&line[from..from + count])
 }
 
 // The number that digits write.
