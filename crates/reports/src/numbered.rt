@@ -8,5 +8,12 @@ use lines::Lines;
 pub fn line_numbered(text: &[u8], number: usize) -> &[u8]
     ensures value { result.now ≡ slice_index_or (lines_of text.now) (number - 1) [] }
 {
-    Lines::of(text).nth(number.saturating_sub(1)).unwrap_or(&[])
+    line_at(text, number.saturating_sub(1))
+}
+
+// The line at an index, from 0; no bytes where the text has fewer lines.
+fn line_at(text: &[u8], index: usize) -> &[u8]
+    ensures value { result.now ≡ slice_index_or (lines_of text.now) index [] }
+{
+    Lines::of(text).nth(index).unwrap_or(&[])
 }
