@@ -74,7 +74,7 @@ pub fn sections(heap: Global, file: &[u8]) -> Result<Vec<Section<'_>>, Uncut>
     for (index, line) in Lines::of(file).enumerate() {
         at += line.len() + 1;
         if is_head(line) {
-            let part = section_below(parts.as_slice(), index + 1, line, tail(file, at))?;
+            let part = section_below(parts.as_slice(), index, line, tail(file, at))?;
             parts.push(part)?;
         }
     }
@@ -170,16 +170,18 @@ fn head_at(number: usize, line: &[u8]) -> Result<Head, FileFault>
     })
 }
 
-// The section of a head line, with what stands below it.
+// The section of the head line at an index, from 0, with what stands below it.
+#[tactic(auto, using(crate::proofs::Cutting::take_min), unfolding(crate::specs::Sections::section_of))]
 fn section_below<'a>(
     above: &[Section],
-    number: usize,
+    index: usize,
     line: &[u8],
     below: &'a [u8],
 ) -> Result<Section<'a>, FileFault>
-    requires { number + 1 + length below.now < 2 ^ 64 }
-    ensures value { map_ok seen_section result ≡ section_of (map seen_section above.now) number line.now below.now }
+    requires { index + 2 + length below.now < 2 ^ 64 }
+    ensures value { map_ok seen_section result ≡ section_of (map seen_section above.now) (index + 1) line.now below.now }
 {
+    let number = index + 1;
     let head = head_at(number, line)?;
     check_head(above, number, head, below)?;
     Ok(Section {
