@@ -1,5 +1,5 @@
 // The rows of a listing: one for each statement, and one for each jump without its mark. It knows nothing of faults.
-ghost use Rattle.std.specs.Prelude.{◌≡◌, IfOk, string_bytes, decimal};
+ghost use Rattle.std.specs.Prelude.{◌≡◌, ◌+◌, ◌^◌, ◌<◌, ◌==◌, IfOk, string_bytes, decimal};
 ghost use Rattle.awl.specs.Written.{mark_text};
 ghost use Rattle.parser.specs.Statements.{written};
 ghost use Rattle.lines.specs.Lines.{lines_of};
@@ -23,13 +23,21 @@ pub fn statement_rows(heap: Global, block: &Block, text: &[u8]) -> Result<String
     let mut done = 0;
     for (index, line) in Lines::of(text).enumerate() {
         if let Some(next) = block.lines().get(done)
-            && next.number == index + 1
+            && stands_at(*next, index)
         {
             done += 1;
             rows.push_str(statement_row(heap, done, *next, line)?.as_str())?;
         }
     }
     Ok(rows)
+}
+
+// Whether a statement was read from the line at an index, from 0.
+fn stands_at(statement: Line, index: usize) -> bool
+    requires { index + 1 < 2 ^ 64 }
+    ensures value { result ≡ ((entry statement).line == index + 1) }
+{
+    statement.number == index + 1
 }
 
 // Statement number, line number, mark, and the statement as typed.

@@ -1,4 +1,4 @@
-use Rattle.std.proofs.Common.{◌≡◌, ℕ, ◌+◌, false, length, map, drop, is_some, string_bytes, sym, ap, ◌∙◌, eq-eqb, ne_eqb, arith}
+use Rattle.std.proofs.Common.{◌≡◌, ◌+◌, true, false, eqb, length, get_or, map, drop, is_some, string_bytes, sym, ap, ◌∙◌, arith}
 use Rattle.std.proofs.lemmas.Bool.{ltb-false}
 use Rattle.std.proofs.lemmas.List.{length-take-le}
 use Rattle.lines.specs.Lines.{lines_of}
@@ -7,7 +7,7 @@ use Rattle.reader.specs.declared.listings.Line.{Line}
 use Rattle.list.specs.Rows.{statement_row, statement_rows}
 use Rattle.list.proofs.Listing.{rows_hit, rows_miss, rows_done}
 use Rattle.list.proofs.rows.statement_rows.Goals as goal
-use Rattle.list.proofs.rows.statement_rows.Goals.{in_default-via-in-None-1, in_default-via-in-Some-get+else-next-index}
+use Rattle.list.proofs.rows.statement_rows.Goals.{in_default-via-in-None-1, in_default-via-in-Some-get+else-stands_at}
 
 pub loop-index-preserved-in-loop-index : goal.loop-index-preserved-in-loop-index
 loop-index-preserved-in-loop-index c =
@@ -23,8 +23,10 @@ loop-index-preserved-in-loop-index c =
     let next = c.in-Some-get.next.now in
     let line = c.in-Some.line.now in
     let more = ap length here.0 in
-    let hit = rows_hit xs i (c.loop-index.index-iterator.count + 1) next line (string_bytes c.loop-index.rows) c.as_str.result.now (string_bytes c.push_str.new.self) (lines_of c.loop-index.index-iterator.iter) (lines_of c.next.new.self.iter)
-    inside here.0 (eq-eqb _ _ (sym (ap (λ (l : Line). l.number) found.1) ∙ c.if-next-index.true ∙ ap (λ (n : ℕ). n + 1) here.1))
+    let n = c.loop-index.index-iterator.count + 1 in
+    let stands : eqb (get_or xs i next).number n ≡ true = cc (found.1, here.1) in
+    let hit = rows_hit xs i n next line (string_bytes c.loop-index.rows) c.as_str.result.now (string_bytes c.push_str.new.self) (lines_of c.loop-index.index-iterator.iter) (lines_of c.next.new.self.iter)
+    inside here.0 stands
     (c.as_str.ensures.value ∙ c.in_ok-statement_row.ensures.value ∙ ap (λ (l : Line). statement_row (i + 1) (entry l) line) found.1)
     c.in_ok-push_str.ensures.bytes in
     (omega (arith, here.2), omega arith, cc (hit, here.2, c.lines.ensures.value, c.loop-index.invariant.2))
@@ -48,8 +50,10 @@ loop-index-preserved c =
           let none : is_some c.get.result ≡ false = cc in
           let past = ltb-false _ _ (sym c.get.ensures.lookup.0 ∙ none) in
           rows_done xs i (n + 1) rest past ∙ sym (rows_done xs i n all past)
-      | in_default-via-in-Some-get+else-next-index w ↦
+      | in_default-via-in-Some-get+else-stands_at w ↦
           let found = w.in-Some-get.ensures.lookup in
-          rows_miss xs i n w.in-Some-get.next.now c.in-Some.line.now all rest found.3.0 here.0 (ne_eqb _ _ (λ e. w.if-next-index.false (ap (λ (l : Line). l.number) found.1 ∙ e ∙ ap (λ (k : ℕ). k + 1) (sym here.1))))
+          let next = w.in-Some-get.next.now in
+          let stands : eqb (get_or xs i next).number n ≡ false = cc (found.1, here.1) in
+          rows_miss xs i n next c.in-Some.line.now all rest found.3.0 here.0 stands
     ] in
     (omega (arith, here.2), omega arith, cc (miss, here.2, c.lines.ensures.value, c.loop-index.invariant.2))
