@@ -2,7 +2,7 @@
 use Rattle.std.proofs.Common.{◌≡◌, ℕ, zero, suc, ◌+◌, ◌-◌, ◌/◌, ◌%◌, ◌^◌, ◌<◌, Bool, true, false, cond, eqb, List, [], ◌∷◌, map, length, get_or, take, replicate, Some, None, sum_by, count_by, Option, sym, refl, ap, ◌∙◌, subst, zero-add, arith}
 use Rattle.std.proofs.lemmas.List.{take_all, length-map, get_or-map, length-take-le, get_or-take, length-replicate, get_or-replicate}
 use Rattle.std.proofs.lemmas.List.Sums.{sum_by-cons, sum_by-append, sum_by_more}
-use Rattle.std.proofs.lemmas.Bool.{eqb-true, eq-eqb, ne_eqb, both_ways, cond-true, cond-false}
+use Rattle.std.proofs.lemmas.Bool.{eqb-true, eq-eqb, both_ways}
 use Rattle.std.specs.Option.{option_to_list}
 use Rattle.awl.specs.declared.names.BlockName.{BlockName}
 use Rattle.store.proofs.Holding.{name_has_slot}
@@ -14,7 +14,6 @@ use Rattle.walk.proofs.Lowests.{none_some}
 use Rattle.walk.specs.Findings.{Found, unseen}
 use Rattle.walk.specs.declared.sights.Finding.{Finding}
 use Rattle.walk.specs.declared.sights.Sight.{Sight}
-use Rattle.checker.specs.Chains.{In}
 use Rattle.checker.specs.Counts.{CountsIn, Counts, seen_in, seen_at, of_name, seen_by, seen_of}
 use Rattle.checker.specs.Joins.{FoundTo, Reach}
 use Rattle.checker.specs.Project.{Project, project_of, Holds, flows_in, outermost, Chain}
@@ -92,11 +91,8 @@ module _ (s : Store) (findings : List Finding) (reach : ℕ) (d : Finding) where
   of_slot : (i : ℕ) (b : BlockName) → name_at s i ≡ Some b → of_name (seen_of s findings reach d) (name_at s i) ≡ seen_at reach i (get_or findings i d)
   of_slot i b named = ap (of_name (seen_of s findings reach d)) named ∙ ap (seen_by (λ j. seen_at reach j (get_or findings j d))) (name_has_slot s b i named)
 
-  pub adds_entered : (i : ℕ) (b : BlockName) (f : Finding) → name_at s i ≡ Some b → In reach i → f ≡ get_or findings i d → seen_in f ≡ of_name (seen_of s findings reach d) (name_at s i)
-  adds_entered i b f named on is = ap seen_in is ∙ sym (of_slot i b named ∙ cond-true _ (seen_in (get_or findings i d)) 0 (eq-eqb _ _ on))
-
-  pub adds_off : (i : ℕ) (b : BlockName) → name_at s i ≡ Some b → (In reach i → ⊥) → 0 ≡ of_name (seen_of s findings reach d) (name_at s i)
-  adds_off i b named off = sym (of_slot i b named ∙ cond-false _ (seen_in (get_or findings i d)) 0 (ne_eqb _ _ off))
+  pub adds_held : (i : ℕ) (b : BlockName) (f : Finding) → name_at s i ≡ Some b → f ≡ get_or findings i d → seen_at reach i f ≡ of_name (seen_of s findings reach d) (name_at s i)
+  adds_held i b f named is = ap (seen_at reach i) is ∙ sym (of_slot i b named)
 
   pub adds_free : (i : ℕ) → name_at s i ≡ None → 0 ≡ of_name (seen_of s findings reach d) (name_at s i)
   adds_free i free = sym (ap (of_name (seen_of s findings reach d)) free)

@@ -1,8 +1,9 @@
 // How many statements the walk comes to, from what was found in each block. It reads no statement.
-ghost use Rattle.std.specs.Prelude.{◌≡◌, ◌≤◌};
-ghost use Rattle.checker.specs.Counts.{Counts, seen_in};
+ghost use Rattle.std.specs.Prelude.{◌≡◌, ◌<◌, ◌≤◌};
+ghost use Rattle.checker.specs.Counts.{Counts, seen_in, seen_at};
 ghost use Rattle.checker.specs.Joins.{FoundTo};
 
+use crate::chains::SlotSet;
 use crate::surveys::Survey;
 use walk::sights::Finding;
 
@@ -12,6 +13,19 @@ fn walked_in(finding: &Finding) -> usize
     ensures bound { result ≤ 255 }
 {
     finding.sights().iter().filter(|sight| sight.walked).count()
+}
+
+// The same of the block in a slot; 0 where the slot is not among those that are entered.
+fn seen_at(reach: SlotSet, slot: u8, finding: &Finding) -> usize
+    requires { slot < 32 }
+    ensures value { result ≡ seen_at reach slot finding.now }
+    ensures bound { result ≤ 255 }
+{
+    if reach.has(slot) {
+        walked_in(finding)
+    } else {
+        0
+    }
 }
 
 impl Survey<'_> {
@@ -24,9 +38,8 @@ impl Survey<'_> {
         let mut total = 0;
         for (slot, finding) in self.findings.iter().enumerate() {
             let slot = slot as u8;
-            let entered = reach.has(slot);
-            if self.store.name_at(slot).is_some() && entered {
-                total += walked_in(finding);
+            if self.store.name_at(slot).is_some() {
+                total += seen_at(reach, slot, finding);
             }
         }
         total

@@ -151,6 +151,7 @@ fn outward_fault(store: &Store, sight: Sight, deep: bool) -> Option<Fault>
 }
 
 // The lowest fault of a statement.
+#[tactic(auto, unfolding(crate::specs::Inside::fault_seen))]
 fn fault_seen(store: &Store, sight: Sight, deep: bool) -> Option<Fault>
     ensures value { result ≡ fault_seen (project_of store.now) deep sight }
 {

@@ -1,9 +1,10 @@
 -- A block that was read, as the table and as its readers see it. Assumes nothing.
-use Rattle.std.proofs.Common.{◌≡◌, ℕ, ◌<◌, ◌≤◌, true, List, [], ◌∷◌, map, length, get_or, take, Some, vec_items, vec_len, Option, Vec, sym, refl, ap, ◌∙◌, subst, arith, MatchOption}
+use Rattle.std.proofs.Common.{◌≡◌, ℕ, ◌+◌, ◌<◌, ◌≤◌, true, List, [], ◌∷◌, ◌++◌, map, length, get_or, take, drop, Some, vec_items, vec_len, Option, Vec, sym, refl, ap, ◌∙◌, subst, arith, MatchOption}
 use lib.Seq.{paste}
 use Rattle.std.specs.Vec.{with_items}
 use Rattle.std.specs.declared.alloc.Global.{Global}
-use Rattle.std.proofs.lemmas.List.{take-map, length-map, get_or-map, with_items_is}
+use Rattle.std.proofs.lemmas.List.{length-take-le, take-take, take-map, length-map, get_or-map, with_items_is}
+use Rattle.awl.specs.declared.statements.Statement.{Statement}
 use Rattle.parser.specs.Statements.{Written, written}
 use Rattle.reader.specs.Laws.{Lawful, Carries, NoneCarries}
 use Rattle.reader.specs.Listed.{entry, listed}
@@ -23,6 +24,14 @@ pub lines_spelled : (lines : List Line) (count : ℕ) → map written (take coun
 lines_spelled lines count =
     let cut : take count (statement_lines lines) ≡ statement_lines (take count lines) = take-map (λ (l : Line). l.statement) count lines in
     ap (map written) cut ∙ run_spelled (take count lines)
+
+-- the first lines of a block, written as they are or out of all of its lines
+pub lines_pasted : (d : List Statement) (at : ℕ) (lines : List Line) (count : ℕ) → count ≤ length lines → paste d at (statement_lines (take count lines)) (length (take count lines)) ≡ paste d at (statement_lines lines) count
+lines_pasted d at lines count h =
+    let said : Line → Statement = λ l. l.statement in
+    let cut = ap (take count) (sym (take-map said count lines)) ∙ take-take count count (statement_lines lines) (omega arith) in
+    ap (λ (n : ℕ). paste d at (statement_lines (take count lines)) n) (length-take-le count lines h)
+    ∙ ap (λ (run : List Statement). take at d ++ run ++ drop (at + count) d) cut
 
 -- a jump that finds its mark goes to one of the statements
 aimed : (es : List Entry) → Lawful es → (s t : ℕ) (d : Written) → s < length (statements_of es) → (get_or (statements_of es) s d).target ≡ Some t → (1 ≤ t) × (t ≤ length (statements_of es))

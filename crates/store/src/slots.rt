@@ -1,6 +1,6 @@
 // The slots that a store's tables are cut into. It knows nothing of what stands in the tables.
-ghost use Rattle.std.specs.Prelude.{◌≡◌};
-ghost use Rattle.store.specs.Slots.{is_named};
+ghost use Rattle.std.specs.Prelude.{◌≡◌, ◌<◌, ◌≤◌, length, IfSome};
+ghost use Rattle.store.specs.Slots.{is_named, slot_in, names_in};
 
 use awl::names::BlockName;
 
@@ -25,4 +25,23 @@ impl Slot {
     {
         self.name == Some(name)
     }
+}
+
+// The first slot of a name, or none.
+pub(crate) fn first_named(slots: &[Slot], name: BlockName) -> Option<u8>
+    requires { length slots.now ≤ 256 }
+    ensures value { result ≡ slot_in slots.now name }
+    ensures bound { IfSome result (λ i. i < length slots.now) }
+{
+    slots
+        .iter()
+        .position(|slot| slot.is_named(name))
+        .map(|slot| slot as u8)
+}
+
+// How many of the slots have a block.
+pub(crate) fn count_named(slots: &[Slot]) -> usize
+    ensures value { result ≡ length (names_in slots.now) }
+{
+    slots.iter().filter(|slot| slot.name.is_some()).count()
 }

@@ -4,7 +4,7 @@ ghost use Rattle.std.proofs.Math.Seq.{paste};
 ghost use Rattle.store.specs.Runs.{statement_lines};
 
 use awl::statements::Statement;
-use reader::listings::Block;
+use reader::listings::{Block, Line};
 
 // So many entries of a slot, from its first.
 pub(crate) fn part<T, const WIDTH: usize>(table: &[T], slot: usize, size: usize) -> &[T]
@@ -16,12 +16,21 @@ pub(crate) fn part<T, const WIDTH: usize>(table: &[T], slot: usize, size: usize)
 }
 
 // The block's statements, into a slot of 255 entries.
+#[tactic(auto, using(crate::proofs::Spelling::lines_pasted))]
 pub(crate) fn put_block(table: &mut [Statement], slot: usize, block: &Block)
     requires { slot * 255 + block.now.count ≤ length table.old }
     ensures after { table.new ≡ paste table.old (slot * 255) (statement_lines block.now.lines) block.now.count }
 {
     let first = slot * 255;
-    for (i, line) in block.lines[..block.count].iter().enumerate() {
+    put_lines(table, first, &block.lines[..block.count]);
+}
+
+// The statements of the lines, into a table from an entry on.
+fn put_lines(table: &mut [Statement], first: usize, lines: &[Line])
+    requires { first + length lines.now ≤ length table.old }
+    ensures after { table.new ≡ paste table.old first (statement_lines lines.now) (length lines.now) }
+{
+    for (i, line) in lines.iter().enumerate() {
         table[first + i] = line.statement;
     }
 }

@@ -4,6 +4,7 @@ ghost use Rattle.std.specs.Option.{option_map};
 ghost use Rattle.parser.specs.Statements.{written};
 ghost use Rattle.store.specs.Held.{slot_of, name_at, text_at, blocks, block_count, Readable};
 
+use crate::slots::{count_named, first_named};
 use crate::store::Store;
 use crate::tables::part;
 use awl::names::BlockName;
@@ -11,15 +12,13 @@ use awl::statements::Statement;
 
 impl Store {
     // The slot of the block of a name, or none.
+    #[tactic(auto, using(crate::proofs::Holding::block_found))]
     pub fn find(&self, name: BlockName) -> Option<u8>
         ensures value { result ≡ slot_of self.now name }
         ensures bound { IfSome result (λ i. i < 32) }
         ensures held { blocks self.now name ≡ option_map (text_at self.now) result }
     {
-        self.slots
-            .iter()
-            .position(|slot| slot.is_named(name))
-            .map(|slot| slot as u8)
+        first_named(&self.slots, name)
     }
 
     // The name of the block in a slot; none from 32 on.
@@ -56,9 +55,10 @@ impl Store {
     }
 
     // How many blocks are held.
+    #[tactic(auto, unfolding(crate::specs::Held::block_count))]
     pub fn block_count(&self) -> usize
         ensures value { result ≡ block_count self.now }
     {
-        self.slots.iter().filter(|slot| slot.name.is_some()).count()
+        count_named(&self.slots)
     }
 }

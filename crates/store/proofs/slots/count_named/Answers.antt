@@ -1,14 +1,12 @@
 use Rattle.std.proofs.Common.{is_some, ◌∙◌, rules, tests}
 use Rattle.std.proofs.lemmas.Iterator.{YieldsList-from_slice}
 use Rattle.std.proofs.lemmas.Iterator.Consumers.{YieldsList-from_filter, count_from_yields_List}
-use Rattle.store.specs.Held.{block_count}
 use Rattle.store.proofs.Counting.{names_count}
-use Rattle.store.proofs.store.Store.block_count.Goals as goal
+use Rattle.store.proofs.slots.count_named.Goals as goal
 
 pub returns : goal.returns
-unfolding block_count
 returns c =
-    let slots = c.args.self.now.slots in
+    let slots = c.args.slots.now in
     record {
       value =
           count_from_yields_List c.filter.result c.count.result c.count.ensures.ran
