@@ -21,12 +21,23 @@ use Rattle.walk.specs.declared.faults.Fault.{Fault as FaultKind}
 use Rattle.walk.specs.declared.faults.Fault.TheVariants.{NoStart}
 use Rattle.checker.specs.Chains.{In}
 use Rattle.checker.specs.Inside.{BadAt, FirstIn, JudgesIn}
-use Rattle.checker.specs.Joins.{Reached, FirstTo, JudgesTo, FirstHere, JudgesHere}
+use Rattle.checker.specs.Joins.{Earlier, Reached, FirstTo, JudgesTo, FirstHere, JudgesHere}
 use Rattle.checker.specs.Project.{Project, project_of, Holds, flows_in, outermost, Met, at, k9}
 use Rattle.checker.specs.Verdicts.{NotAfter, Passes, First, Verdict, Judges}
 use Rattle.checker.specs.declared.verdicts.Found.{Found}
 use Rattle.checker.proofs.Chaining.{walk_chain, chain_held, chain_start, bad_met, met_bad, met_chain, some_same}
 use Rattle.checker.proofs.Fitting.{slot_low, held_slot}
+
+-- the lesser of two is the earlier, by an order that puts names first
+pub lesser_earlier : (order : Found → Found → Ordering) → ((f g : Found) → (f.block ≡ g.block → ⊥) → Decides (is_gt (order f g)) (Before g.block f.block)) →
+    (best other r : Option Found) → r ≡ lesser_of order best other → Earlier best other r
+lesser_earlier order named None other r e = e
+lesser_earlier order named (Some f) None r e = e
+lesser_earlier order named (Some f) (Some g) r e = λ apart. choose (is_gt (order f g)) (named f g apart) e
+  where
+    choose : (later : Bool) → Decides later (Before g.block f.block) → r ≡ cond later (Some g) (Some f) → ((r ≡ Some g) × Before g.block f.block) ⊎ ((r ≡ Some f) × (Before g.block f.block → ⊥))
+    choose true d same = inl (same, d.0 refl)
+    choose false d same = inr (same, λ before. both_ways _ refl (d.1 before))
 
 -- one block, statement by statement
 module _ (p : Project) (b : BlockName) (deep : Bool) where
@@ -130,27 +141,34 @@ module _ (s : Store) where
         (slot_split n i b l named);
   }
 
-  -- one slot more, by an order that puts names first
-  pub judges_more : (order : Found → Found → Ordering) → ((f g : Found) → (f.block ≡ g.block → ⊥) → Decides (is_gt (order f g)) (Before g.block f.block)) →
-      (n : ℕ) (best here : Option Found) → JudgesTo s n best → JudgesHere s n here → JudgesTo s (n + 1) (lesser_of order best here)
-  judges_more order named n None None best here = λ i b t w l at h. ⊎_elim (λ (m : i < n). best i b t w m at h) (λ (m : name_at s n ≡ Some b). here b t w m h) (slot_split n i b l at)
-  judges_more order named n None (Some g) best here = takes n g here (λ i b t w l at h. absurd (best i b t w l at h))
-  judges_more order named n (Some f) None best here = keeps n f best (λ b t w at h. absurd (here b t w at h))
-  judges_more order named n (Some f) (Some g) best here = choose (is_gt (order f g)) (named f g other)
+  -- one slot more
+  pub judges_more : (n : ℕ) (best here r : Option Found) → JudgesTo s n best → JudgesHere s n here → Earlier best here r → JudgesTo s (n + 1) r
+  judges_more n None None r best here e =
+      subst (λ (o : Option Found). JudgesTo s (n + 1) o) (sym e)
+      (λ i b t w l at h. ⊎_elim (λ (m : i < n). best i b t w m at h) (λ (m : name_at s n ≡ Some b). here b t w m h) (slot_split n i b l at))
+  judges_more n None (Some g) r best here e =
+      subst (λ (o : Option Found). JudgesTo s (n + 1) o) (sym e) (takes n g here (λ i b t w l at h. absurd (best i b t w l at h)))
+  judges_more n (Some f) None r best here e =
+      subst (λ (o : Option Found). JudgesTo s (n + 1) o) (sym e) (keeps n f best (λ b t w at h. absurd (here b t w at h)))
+  judges_more n (Some f) (Some g) r best here e =
+      ⊎_elim
+      (λ (taken : (r ≡ Some g) × Before g.block f.block).
+      subst (λ (o : Option Found). JudgesTo s (n + 1) o) (sym taken.0)
+      (takes n g here (λ i b t w l at h. before_all g.block f.block b _ _ _ _ t w taken.1 (best.least i b t w l at h))))
+      (λ (kept : (r ≡ Some f) × (Before g.block f.block → ⊥)).
+      subst (λ (o : Option Found). JudgesTo s (n + 1) o) (sym kept.0)
+      (keeps n f best (λ b t w at h.
+      let same = some_same (sym here.named ∙ at) in
+      inl (subst (λ (c : BlockName). Before f.block c) same (before_total g.block f.block (λ q. apart (sym q)) kept.1)))))
+      (e apart)
     where
-      other : f.block ≡ g.block → ⊥
-      other q =
+      apart : f.block ≡ g.block → ⊥
+      apart q =
           let one = name_has_slot s f.block n (here.named ∙ ap Some (sym q)) in
           let two = name_has_slot s f.block best.slot best.named in
           let same = some_same (sym one ∙ two) in
           let l = best.within in
           omega arith
-
-      choose : (later : Bool) → Decides later (Before g.block f.block) → JudgesTo s (n + 1) (cond later (Some g) (Some f))
-      choose true d = takes n g here (λ i b t w l at h. before_all g.block f.block b _ _ _ _ t w (d.0 refl) (best.least i b t w l at h))
-      choose false d = keeps n f best (λ b t w at h.
-          let same = some_same (sym here.named ∙ at) in
-          inl (subst (λ (c : BlockName). Before f.block c) same (before_total g.block f.block (λ q. other (sym q)) (λ before. both_ways _ refl (d.1 before)))))
 
   module _ (reach last : ℕ) (r : Reached s reach last) (held : Holds (project_of s) outermost) (n : ℕ) where
     -- a slot whose block is not entered has nothing

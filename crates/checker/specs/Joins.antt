@@ -1,5 +1,6 @@
 -- What the join's tables say of a store, slot by slot. It assumes nothing.
 use Rattle.std.specs.Prelude.{◌≡◌, ℕ, ◌<◌, ◌≤◌, ◌⊎◌, List, Some, None, Option, slice_index, slice_index_or}
+use Rattle.awl.specs.Order.{Before}
 use Rattle.awl.specs.declared.names.BlockName.{BlockName}
 use Rattle.store.specs.Held.{slot_of, name_at}
 use Rattle.store.specs.declared.store.Store.{Store}
@@ -72,3 +73,9 @@ pub record FirstHere (s : Store) (n : ℕ) (f : FoundFault) : Type 0 where
 abbrev pub JudgesHere : Store → ℕ → Option FoundFault → Type 0
 JudgesHere s n None = (b : BlockName) (t w : ℕ) → name_at s n ≡ Some b → Met (project_of s) b t w → ⊥
 JudgesHere s n (Some f) = FirstHere s n f
+
+-- of two faults in different blocks, the one whose block comes first
+abbrev pub Earlier : Option FoundFault → Option FoundFault → Option FoundFault → Type 0
+Earlier None other r = r ≡ other
+Earlier (Some f) None r = r ≡ Some f
+Earlier (Some f) (Some g) r = (f.block ≡ g.block → ⊥) → ((r ≡ Some g) × Before g.block f.block) ⊎ ((r ≡ Some f) × (Before g.block f.block → ⊥))

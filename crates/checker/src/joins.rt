@@ -4,7 +4,7 @@ ghost use Rattle.awl.specs.declared.names.BlockName.{BlockName as Name};
 ghost use Rattle.store.specs.Held.{slot_of, name_at, blocks, data_blocks};
 ghost use Rattle.walk.specs.Walk.{Fit};
 ghost use Rattle.checker.specs.Inside.{JudgesIn, fault_seen, entered_by, outward_of};
-ghost use Rattle.checker.specs.Joins.{IsOf, FoundTo, EntersTo, CallsTo, Reach, Reached, JudgesTo, JudgesHere};
+ghost use Rattle.checker.specs.Joins.{Earlier, IsOf, FoundTo, EntersTo, CallsTo, Reach, Reached, JudgesTo, JudgesHere};
 ghost use Rattle.checker.specs.Project.{project_of, Holds, flows_in, outermost};
 ghost use Rattle.checker.specs.Verdicts.{Judges};
 
@@ -99,6 +99,7 @@ impl Join<'_> {
     }
 
     // The first fault of all blocks that are entered.
+    #[tactic(auto, using(crate::proofs::Judging::judges_more))]
     fn first(&self) -> Option<Found>
         requires found { FoundTo self.now.survey.now.store.now self.now.survey.now.findings 32 }
         requires reached { Reached self.now.survey.now.store.now self.now.reach self.now.last }
@@ -108,10 +109,17 @@ impl Join<'_> {
         let mut best = None;
         for (slot, finding) in self.survey.findings.iter().enumerate() {
             let here = self.first_at(slot as u8, finding);
-            best = lesser(best, here);
+            best = earlier(best, here);
         }
         best
     }
+}
+
+// Of two faults in different blocks, the one whose block comes first.
+fn earlier(best: Option<Found>, other: Option<Found>) -> Option<Found>
+    ensures value { Earlier best other result }
+{
+    lesser(best, other)
 }
 
 // The slot of the block that a statement's call enters, as a set; empty where it enters none that is held.

@@ -36,6 +36,7 @@ impl<'a> Survey<'a> {
 }
 
 // What the walk of each block finds, slot by slot.
+// That the places are enough is asked of each call and held in no type: they are lent as a slice, and lent on as one.
 fn findings_of(store: &Store, places: &mut [Place]) -> [Finding; 32]
     requires { 1530 ≤ length places.old }
     ensures value { FoundTo store.now result 32 }
