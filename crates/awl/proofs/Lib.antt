@@ -1,1 +1,3 @@
+pub mod Digits
+pub mod Named
 pub mod Padded

@@ -1,5 +1,7 @@
 pub mod Alphabet
+pub mod Digits
 pub mod MarkText
+pub mod Named
 pub mod Names
 pub mod Order
 pub mod Reach

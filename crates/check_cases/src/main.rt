@@ -25,11 +25,13 @@ fn main(rt: HostRuntime) -> anyhow::Result<()> {
 fn answers(heap: Global, input: &[u8]) -> Result<String, AllocError> {
     let mut out = String::new(heap);
     let mut lines = Lines::of(input);
+    let mut is_first = true;
     while let Some(line) = lines.next() {
-        if line.first() == Some(&b'=') {
+        if is_first || line.first() == Some(&b'=') {
             let (file, _) = lines.rest().split_at(case_size(lines.rest()));
             out.push_str(answer(heap, line, file)?.as_str())?;
         }
+        is_first = false;
     }
     Ok(out)
 }

@@ -1,5 +1,5 @@
-// Which blocks chains of calls enter, as sets of slots. A slot is a number below 32, as the store answers it. It knows nothing
-// of statements.
+// Which blocks chains of calls enter, as sets of slots. A slot is a number below 32, as the store answers it and is asked by it:
+// a type of its own would be made and unmade at each question. It knows nothing of statements.
 ghost use Rattle.std.specs.Prelude.{◌≡◌, ℕ, ◌^◌, ◌<◌, Decides};
 ghost use Rattle.checker.specs.Chains.{In, Union, Called, Level, Entered};
 

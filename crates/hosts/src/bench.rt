@@ -44,6 +44,8 @@ impl Host for Bench {
 
     ghost beyond = { Prim.search rules };
 
+    // The bytes are the image's. The feed has the same lines: the trait would need an image of its width to answer them, and no
+    // type takes a constant of a trait.
     fn input(&self, n: u8) -> u8 {
         self.image.input(n)
     }

@@ -1,7 +1,5 @@
 -- The names of the operations are told apart, and no other bytes are one. Assumes nothing.
-use Rattle.std.proofs.Common.{◌≡◌, ℕ, Bool, true, false, cond, List, [], ◌∷◌, Some, None, Option, sym, refl, subst, arith, MatchOption}
-use Rattle.std.specs.Str.{bytes_eq}
-use Rattle.std.proofs.lemmas.Slice.Eq.{bytes_eq-Decides}
+use Rattle.std.proofs.Common.{◌≡◌, ℕ, List, Some, Option, refl, MatchOption}
 use Rattle.awl.specs.declared.statements.Arithmetic.TheVariants as arithmetic
 use Rattle.awl.specs.declared.statements.BlockEnd.TheVariants as end
 use Rattle.awl.specs.declared.statements.Bracket.TheVariants as bracket
@@ -12,10 +10,12 @@ use Rattle.awl.specs.declared.statements.JumpCondition.TheVariants as jump
 use Rattle.awl.specs.declared.statements.TimerKind.TheVariants as timer
 use Rattle.awl.specs.declared.statements.Operation.{Operation}
 use Rattle.awl.specs.declared.statements.Operation.TheVariants.{Combine, Open, Close, Set, Reset, Assign, Load, LoadCoded, Transfer, Start, Count, Calculate, Compare, Jump, End, ChooseData, Stop}
-use Rattle.lexer.specs.Names.{name_of, operations, spelled_among, operation_named}
+use Rattle.awl.specs.Named.{first_named}
+use Rattle.awl.proofs.Named.{known}
+use Rattle.lexer.specs.Names.{name_of, operations, operation_named}
 
 -- each operation is the first with its name: computed for each
-found_name : (o : Operation) → spelled_among operations (name_of o) ≡ Some o
+found_name : (o : Operation) → first_named name_of operations (name_of o) ≡ Some o
 found_name (Combine combine.And) = refl
 found_name (Combine combine.AndNot) = refl
 found_name (Combine combine.Or) = refl
@@ -58,21 +58,7 @@ found_name (End end.Rlo) = refl
 found_name ChooseData = refl
 found_name Stop = refl
 
--- what is found among some operations has the name
-named_so : (os : List Operation) (bs : List ℕ) (o : Operation) → spelled_among os bs ≡ Some o → name_of o ≡ bs
-named_so [] bs o e = let z : ◌≡◌ {A = ℕ} 0 1 = cc in absurd (omega arith)
-named_so (p ∷ os) bs o e = here (bytes_eq (name_of p) bs) refl (named_so os bs o) e
-  where
-    here : (b : Bool) → bytes_eq (name_of p) bs ≡ b → (spelled_among os bs ≡ Some o → name_of o ≡ bs) → cond b (Some p) (spelled_among os bs) ≡ Some o → name_of o ≡ bs
-    here true t rest f = let same : p ≡ o = cc in subst (λ (q : Operation). name_of q ≡ bs) same ((bytes_eq-Decides (name_of p) bs).0 t)
-    here false t rest f = rest f
-
-none_found : (x : Option Operation) → ((o : Operation) → x ≡ Some o → ⊥) → None ≡ x
-none_found None h = refl
-none_found (Some o) h = absurd (h o refl)
-
 -- an answer that has the name, or is none where no operation has it, is the definition's
 pub known_name : (bs : List ℕ) (r : Option Operation) → MatchOption r ((o : Operation) → name_of o ≡ bs → ⊥) (λ o. name_of o ≡ bs) → r ≡ operation_named bs
 unfolding operation_named
-known_name bs None h = none_found (spelled_among operations bs) (λ o e. h o (named_so operations bs o e))
-known_name bs (Some o) h = sym (subst (λ (b : List ℕ). spelled_among operations b ≡ Some o) h (found_name o))
+known_name = known name_of operations found_name

@@ -1,6 +1,6 @@
 -- The names of the operations. It assumes nothing.
-use Rattle.std.specs.Prelude.{ℕ, cond, List, [], ◌∷◌, Some, None, codes, Option}
-use Rattle.std.specs.Str.{bytes_eq}
+use Rattle.std.specs.Prelude.{ℕ, List, [], ◌∷◌, codes, Option}
+use Rattle.awl.specs.Named.{first_named}
 use Rattle.awl.specs.declared.statements.Arithmetic.TheVariants as arithmetic
 use Rattle.awl.specs.declared.statements.BlockEnd.TheVariants as end
 use Rattle.awl.specs.declared.statements.Bracket.TheVariants as bracket
@@ -101,11 +101,6 @@ operations =
     ChooseData ∷
     Stop ∷ []
 
--- the first of some operations that is spelled so
-abbrev pub spelled_among : List Operation → List ℕ → Option Operation
-spelled_among [] bs = None
-spelled_among (o ∷ os) bs = cond (bytes_eq (name_of o) bs) (Some o) (spelled_among os bs)
-
 -- the operation of a name, or none where no operation has it
 unfoldable pub operation_named : List ℕ → Option Operation
-operation_named bs = spelled_among operations bs
+operation_named bs = first_named name_of operations bs

@@ -1,11 +1,6 @@
 -- Which bytes are a number, and which number. It assumes nothing.
-use Rattle.std.specs.Prelude.{ℕ, ◌+◌, ◌-◌, ◌*◌, cond, ◌&&◌, List, [], ◌∷◌, length, drop, ℤ, pos, neg_ℤ, Some, None, Option, ◌==◌, nat_le, slice_index}
-use Rattle.awl.specs.Alphabet.{is_digit}
-
--- the digits behind those that made n
-abbrev pub number_from : ℕ → List ℕ → Option ℕ
-number_from n [] = Some n
-number_from n (b ∷ bs) = cond (is_digit b) (number_from (n * 10 + (b - 48)) bs) None
+use Rattle.std.specs.Prelude.{ℕ, cond, ◌&&◌, List, length, drop, ℤ, pos, neg_ℤ, Some, None, Option, ◌==◌, nat_le, slice_index}
+use Rattle.awl.specs.Digits.{number_from}
 
 -- one to ten digits and nothing else, leading zeros counted
 abbrev pub number_of : List ℕ → Option ℕ

@@ -71,7 +71,7 @@ pub fn double_value(bytes: &[u8]) -> Option<i32>
     }
 }
 
-// The number of one to ten digits, or none.
+// The number of one to ten digits, or none. By hand, since what the library parses may have a plus sign and any count of zeros.
 pub fn number(bytes: &[u8]) -> Option<u64>
     ensures value { result ≡ number_of bytes.now }
 {

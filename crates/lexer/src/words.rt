@@ -12,7 +12,8 @@ pub struct Part<'a> {
     pub column: usize,
 }
 
-// A word of the line, by what it stands for: a case for each, as the language has them, though all hold the same part.
+// A word of the line, by what it stands for. A case for each and no kind beside a part: `Word::Mark(part)` is read where words are
+// named, and the kind is asked in one place.
 #[derive(Clone, Copy)]
 pub enum Word<'a> {
     Mark(Part<'a>),

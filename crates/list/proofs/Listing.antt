@@ -30,10 +30,6 @@ lost_more xs i d out row more h r m =
     ∙ ap (λ (e : Entry). lost_row (i + 1) e.statement ++ rest) (get_or-map entry xs i d x h) in
     ap (λ (y : List ℕ). y ++ rest) (m ∙ ap (λ (y : List ℕ). out ++ y) r) ∙ append_assoc out (lost_row (i + 1) x.statement) rest ∙ ap (λ (y : List ℕ). out ++ y) (sym step)
 
-pub lost_end : (xs : List Line) (i : ℕ) (out : List ℕ) → length xs ≤ i → out ++ lost_rows (i + 1) (drop i (map entry xs)) ≡ out ++ []
-lost_end xs i out h =
-    ap (λ (x : List ℕ). out ++ x) (at_drop_all (λ (ys : List Entry). lost_rows (i + 1) ys) (map entry xs) i (omega (arith, length-map xs entry)))
-
 -- the rows at a line, by whether the next statement was read from it
 rows_step : (xs : List Line) (i n : ℕ) (d : Line) (line : List ℕ) (all rest : List (List ℕ)) (b : Bool) → i < length xs → all ≡ line ∷ rest → eqb (get_or xs i d).number n ≡ b →
     statement_rows (drop i (map entry xs)) n (i + 1) all
@@ -73,10 +69,3 @@ no_statements n s (line ∷ lines) = refl
 pub rows_done : (xs : List Line) (i n : ℕ) (lines : List (List ℕ)) → length xs ≤ i → statement_rows (drop i (map entry xs)) n (i + 1) lines ≡ []
 rows_done xs i n lines h =
     at_drop_all (λ (ys : List Entry). statement_rows ys n (i + 1) lines) (map entry xs) i (omega (arith, length-map xs entry)) ∙ no_statements n (i + 1) lines
-
-pub no_lines : (es : List Entry) (n s : ℕ) (lines : List (List ℕ)) → lines ≡ [] → statement_rows es n s lines ≡ []
-no_lines es n s lines e = ap (statement_rows es n s) e ∙ none es
-  where
-    none : (es : List Entry) → statement_rows es n s [] ≡ []
-    none [] = refl
-    none (e ∷ es) = refl

@@ -1,5 +1,4 @@
-// Columns of text as they are shown in a listing, filled up by hand: what `{:>5}` fills up to is a number of characters, and
-// a column here is one of bytes. It knows nothing of lines or blocks.
+// Columns of text as they are shown in a listing. It knows nothing of lines or blocks.
 ghost use Rattle.std.specs.Prelude.{◌≡◌, IfOk, string_bytes};
 ghost use Rattle.std.specs.Option.{option_map};
 ghost use Rattle.awl.specs.Written.{mark_text};

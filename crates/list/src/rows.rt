@@ -15,7 +15,8 @@ use reader::listings::{Block, Line};
 use reports::shown::shown;
 use std::alloc::{AllocError, Global};
 
-// A row for each statement of the block, in the order of the text that the block was read from.
+// A row for each statement of the block, in the order of the text that the block was read from. Text and block are gone over side
+// by side, so that no line is looked for twice: a search for each statement's line would take the square of the time.
 pub fn statement_rows(heap: Global, block: &Block, text: &[u8]) -> Result<String, AllocError>
     ensures value { IfOk result (λ s. string_bytes s ≡ statement_rows (listed block.now.lines block.now.count) 1 1 (lines_of text.now)) }
 {

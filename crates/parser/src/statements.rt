@@ -176,7 +176,8 @@ impl Typed<'_> {
         }
     }
 
-    // The next four differ in their letters, which stand in a pattern, and a pattern is no parameter.
+    // `stored_bit`, `timer`, `counter` and `chosen_data` differ in their letters, which stand in a pattern; no pattern is a
+    // parameter.
 
     // S and = store a bit.
     fn stored_bit(self) -> Result<Bit, WordFault>

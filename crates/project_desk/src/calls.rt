@@ -41,10 +41,7 @@ fn verdict(store: &Store, places: &mut [Place]) -> Answer
     requires { 1530 ≤ length places.old }
     ensures value { CheckTold (project_of store.now) result }
 {
-    match check(store, places) {
-        Ok(verdict) => verdict_told(verdict),
-        Err(refusal) => Answer::Refused(refusal),
-    }
+    verdict_told(check(store, places).unwrap())
 }
 
 // All words of a data block, or none.

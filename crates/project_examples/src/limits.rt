@@ -60,7 +60,7 @@ fn nested(rt: &impl Abort, heap: Global, store: &mut Store, calls: u8) -> Result
 #[test]
 fn five_brackets_and_ten_calls_pass(rt: HostRuntime) -> Result<(), Fail> {
     let heap = rt.alloc();
-    let mut store = opened(heap, 7)?;
+    let mut store = opened(heap, 7, 0)?;
     assert!(rt; judges(heap, &store, Err((OB_1, 0, 9)))?, "no OB 1");
     assert_eq!(rt;
         write(&mut store, OB_1, brackets(heap, 5)?.as_bytes()),

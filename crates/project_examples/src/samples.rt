@@ -5,10 +5,10 @@ use std::alloc::Global;
 use std::test::Fail;
 use store::store::Store;
 
-// A store of a number over tables of the least length, the words of which are not 0 at first.
-pub(crate) fn opened(heap: Global, number: u32) -> Result<Store, Fail> {
+// A store of a number over tables of the least length, whose words are all this one at first.
+pub(crate) fn opened(heap: Global, number: u32, word: u16) -> Result<Store, Fail> {
     let statements = vec![in heap; Statement::Stop; 8160]?;
-    let words = vec![in heap; 7u16; 4096]?;
+    let words = vec![in heap; word; 4096]?;
     let Ok(store) = Store::open(number, statements, words) else {
         return Err(Fail::new("tables of the least length are taken"));
     };

@@ -26,7 +26,7 @@ fn fill(store: &mut Store, count: u8) -> bool {
 
 #[test]
 fn blocks_come_and_go(rt: HostRuntime) -> Result<(), Fail> {
-    let mut store = opened(rt.alloc(), 3)?;
+    let mut store = opened(rt.alloc(), 3, 7)?;
     assert!(rt; store.number() == 3 && write(&mut store, program(1), b":BE\n") == Ok(()));
     assert!(rt; write(&mut store, program(2), b":O\n:O\n:BE\n") == Ok(()));
     assert!(rt;
@@ -51,7 +51,7 @@ fn blocks_come_and_go(rt: HostRuntime) -> Result<(), Fail> {
 
 #[test]
 fn thirty_two_blocks_have_a_place(rt: HostRuntime) -> Result<(), Fail> {
-    let mut store = opened(rt.alloc(), 3)?;
+    let mut store = opened(rt.alloc(), 3, 7)?;
     assert!(rt; fill(&mut store, 32) && write(&mut store, program(32), b":BE\n") == Err(12));
     assert!(rt;
         write(&mut store, program(31), b":O\n:BE\n") == Ok(()),
@@ -80,7 +80,7 @@ fn lay_some(store: &mut Store, count: u8) -> bool {
 
 #[test]
 fn sixteen_data_blocks_have_a_place(rt: HostRuntime) -> Result<(), Fail> {
-    let mut store = opened(rt.alloc(), 3)?;
+    let mut store = opened(rt.alloc(), 3, 7)?;
     assert!(rt; told(store.lay(0, 0)) == Err(7) && told(store.lay(0, 257)) == Err(7));
     assert!(rt; told(store.lay(0, 1)) == Ok(()) && told(store.lay(0, 2)) == Err(14));
     assert!(rt;

@@ -11,11 +11,9 @@ use Rattle.std.specs.Option.{option_map}
 use Rattle.std.proofs.lemmas.List.{length-drop}
 use Rattle.std.proofs.lemmas.List.Sums.{prefix_len-le-length}
 use Rattle.std.proofs.lemmas.List.Folds.{length-prefix_len}
-use Rattle.reader.specs.Lines.{holds}
 use Rattle.projects.specs.Heads.{is_head}
 use Rattle.projects.specs.Sections.{Cut, seen_section, body_size, no_stray, names, section_named, section_of, sections_from, sections_of, Agrees}
 use Rattle.projects.specs.declared.sections.FileFault.{FileFault}
-use Rattle.projects.specs.declared.sections.FileFault.TheVariants.{Stray}
 use Rattle.projects.specs.declared.sections.Section.{Section}
 use Rattle.projects.specs.declared.sections.Uncut.{Uncut}
 use Rattle.projects.specs.declared.sections.Uncut.TheVariants.{Fault, Memory}
@@ -66,13 +64,6 @@ body_line line all rest b e f = ap body_size e ∙ ap (λ (x : Bool). cond x 0 (
 
 pub body_none : (all : List (List ℕ)) → all ≡ [] → body_size all ≡ 0
 body_none all e = ap body_size e
-
--- the same for a line that belongs to no block
-pub stray_line : (line : List ℕ) (all rest : List (List ℕ)) (n : ℕ) (b c : Bool) → all ≡ line ∷ rest → is_head line ≡ b → holds line ≡ c → no_stray n all ≡ cond b (Ok tt) (cond c (Err (Stray n)) (no_stray (n + 1) rest))
-stray_line line all rest n b c e f g =
-    ap (no_stray n) e
-    ∙ ap (λ (x : Bool). cond x (Ok tt) (cond (holds line) (Err (Stray n)) (no_stray (n + 1) rest))) f
-    ∙ ap (λ (x : Bool). cond b (Ok tt) (cond x (Err (Stray n)) (no_stray (n + 1) rest))) g
 
 -- the section of a block, by the first that a search of the list finds
 pub named_found : (name : BlockName) (xs : List Section) → option_map seen_section (find (λ (s : Section). names s.head name) xs) ≡ section_named name (map seen_section xs)

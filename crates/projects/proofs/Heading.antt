@@ -1,5 +1,5 @@
 -- Which lines are heads, and what a head says. Assumes nothing.
-use Rattle.std.proofs.Common.{◌≡◌, ℕ, ◌+◌, ◌≤◌, Bool, false, cond, eqb, List, [], ◌∷◌, length, get_or, Err, Result, sym, refl, ap, ◌∙◌, arith, le-ltb}
+use Rattle.std.proofs.Common.{◌≡◌, ℕ, ◌+◌, ◌≤◌, Bool, cond, List, length, Err, Result, sym, ap, ◌∙◌, le-ltb}
 use Rattle.std.specs.List.{prefix_len}
 use Rattle.awl.specs.Alphabet.{in_class}
 use Rattle.awl.specs.declared.bytes.ByteClass.TheVariants.{Printable}
@@ -9,11 +9,6 @@ use Rattle.projects.specs.Heads.{flaw_at, head_named, star_words, head_of}
 use Rattle.projects.specs.declared.heads.Head.{Head}
 use Rattle.projects.specs.declared.heads.HeadFault.{HeadFault}
 use Rattle.projects.specs.declared.heads.HeadFlaw.TheVariants.{Byte}
-
--- where no byte stands, no star does
-pub no_star : (bytes : List ℕ) → length bytes ≡ 0 → false ≡ eqb (get_or bytes 0 0) 42
-no_star [] h = refl
-no_star (b ∷ bytes) h = absurd (omega arith)
 
 -- a head line whose bytes are all printable is what its words say
 pub head_sound : (line : List ℕ) (words : Pieces) → length line ≤ prefix_len (in_class Printable) line → words ≡ star_words line → head_named (length line + 1) words (letters_of words.operation.bytes) ≡ head_of line

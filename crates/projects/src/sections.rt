@@ -64,7 +64,8 @@ impl<T: Drop> From<AllocFailed<T>> for Uncut {
     }
 }
 
-// The sections of a file in their order, or its first fault.
+// The sections of a file in their order, or its first fault. Where a line ends is added up: `enumerate` holds the lines, and
+// tells nothing of the text behind one.
 pub fn sections(heap: Global, file: &[u8]) -> Result<Vec<Section<'_>>, Uncut>
     ensures value { Agrees result (sections_of file.now) }
 {

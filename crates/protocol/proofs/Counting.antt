@@ -1,23 +1,9 @@
 -- A number, digit by digit, up to the most that its place holds. Assumes nothing.
-use Rattle.std.proofs.Common.{◌≡◌, ℕ, ◌+◌, ◌-◌, ◌*◌, ◌<◌, ◌≤◌, Bool, true, false, cond, List, [], ◌∷◌, length, get_or, drop, Some, None, sym, refl, ap, ◌∙◌, arith}
-use Rattle.std.proofs.lemmas.List.{at_drop_more, at_drop_all}
+use Rattle.std.proofs.Common.{◌≡◌, ℕ, ◌+◌, ◌-◌, ◌*◌, ◌<◌, ◌≤◌, Bool, true, false, cond, List, [], ◌∷◌, length, Some, None, sym, refl, ap, ◌∙◌, arith}
 use Rattle.std.proofs.lemmas.Bool.{lt-leb, le-leb}
-use Rattle.std.proofs.lemmas.Bool.Decides.{nat_tests}
 use Rattle.awl.specs.Alphabet.{is_digit}
-use Rattle.protocol.specs.Numbers.{number_from, number_of, at_most, number_within}
-
-pub digit_more : (xs : List ℕ) (i n : ℕ) → i < length xs → is_digit (get_or xs i 0) ≡ true → number_from n (drop i xs) ≡ number_from (n * 10 + (get_or xs i 0 - 48)) (drop (i + 1) xs)
-digit_more xs i n h d =
-    at_drop_more (number_from n) xs i 0 h
-    ∙ ap (λ (b : Bool). cond b (number_from (n * 10 + (get_or xs i 0 - 48)) (drop (i + 1) xs)) None) d
-
-pub digit_none : (xs : List ℕ) (i n : ℕ) → i < length xs → is_digit (get_or xs i 0) ≡ false → number_from n (drop i xs) ≡ None
-digit_none xs i n h d =
-    at_drop_more (number_from n) xs i 0 h
-    ∙ ap (λ (b : Bool). cond b (number_from (n * 10 + (get_or xs i 0 - 48)) (drop (i + 1) xs)) None) d
-
-pub digit_end : (xs : List ℕ) (i n : ℕ) → length xs ≤ i → number_from n (drop i xs) ≡ Some n
-digit_end xs i n h = at_drop_all (number_from n) xs i h
+use Rattle.awl.specs.Digits.{number_from}
+use Rattle.protocol.specs.Numbers.{number_of, at_most, number_within}
 
 -- more digits make no smaller number
 pub too_much : (most n : ℕ) (xs : List ℕ) → most < n → at_most most (number_from n xs) ≡ None
@@ -31,9 +17,6 @@ too_much most n (x ∷ xs) h = here (is_digit x) (too_much most (n * 10 + (x - 4
 -- what is not above the most is held
 pub enough : (most n : ℕ) → n ≤ most → at_most most (Some n) ≡ Some n
 enough most n h = ap (λ (b : Bool). cond b (Some n) None) (le-leb n most h)
-
-pub digit_small : (b : ℕ) → is_digit b ≡ true → b ≤ 57
-digit_small b d = grind (arith, nat_tests)
 
 -- a word with a byte is read from its first digit on
 pub from_first : (xs : List ℕ) → 0 < length xs → number_of xs ≡ number_from 0 xs

@@ -1,7 +1,5 @@
 -- Names are told apart, and no other bytes are one. Assumes nothing.
-use Rattle.std.proofs.Common.{◌≡◌, ℕ, Bool, true, false, cond, List, [], ◌∷◌, Some, None, Option, sym, refl, subst, arith, MatchOption}
-use Rattle.std.specs.Str.{bytes_eq}
-use Rattle.std.proofs.lemmas.Slice.Eq.{bytes_eq-Decides}
+use Rattle.std.proofs.Common.{◌≡◌, ℕ, List, [], ◌∷◌, Some, Option, refl, MatchOption}
 use Rattle.awl.specs.declared.names.BlockKind.{BlockKind}
 use Rattle.awl.specs.declared.names.BlockKind.TheVariants.{Organisation, Program, Function}
 use Rattle.protocol.specs.declared.names.Verb.{Verb}
@@ -11,26 +9,9 @@ use Rattle.protocol.specs.declared.names.HostVerb.TheVariants.{SetElapsed, SetIn
 use Rattle.protocol.specs.declared.names.HostKind.{HostKind}
 use Rattle.protocol.specs.declared.names.HostKind.TheVariants.{Bench, Feed, MaskBench, MaskFeed}
 use Rattle.awl.specs.Names.{kind_letters}
-use Rattle.protocol.specs.Names.{first_named, verb_name, verbs, verb_of, host_kind_name, host_kind_of, block_kind_of}
-
--- what is found among some things has the name
-named_so : {X : Type 0} (name : X → List ℕ) (xs : List X) (bs : List ℕ) (x : X) → first_named name xs bs ≡ Some x → name x ≡ bs
-named_so name [] bs x e = let z : ◌≡◌ {A = ℕ} 0 1 = cc in absurd (omega arith)
-named_so {X} name (y ∷ xs) bs x e = here (bytes_eq (name y) bs) refl (named_so name xs bs x) e
-  where
-    here : (b : Bool) → bytes_eq (name y) bs ≡ b → (first_named name xs bs ≡ Some x → name x ≡ bs) → cond b (Some y) (first_named name xs bs) ≡ Some x → name x ≡ bs
-    here true t rest f = let same : y ≡ x = cc in subst (λ (z : X). name z ≡ bs) same ((bytes_eq-Decides (name y) bs).0 t)
-    here false t rest f = rest f
-
-none_found : {X : Type 0} (o : Option X) → ((x : X) → o ≡ Some x → ⊥) → None ≡ o
-none_found None h = refl
-none_found (Some x) h = absurd (h x refl)
-
--- each of the things is the first with its name: then an answer that has the name, or is none where nothing has it, is the
--- definition's
-known : {X : Type 0} (name : X → List ℕ) (xs : List X) → ((x : X) → first_named name xs (name x) ≡ Some x) → (bs : List ℕ) (r : Option X) → MatchOption r ((x : X) → name x ≡ bs → ⊥) (λ x. name x ≡ bs) → r ≡ first_named name xs bs
-known name xs first bs None h = none_found (first_named name xs bs) (λ x e. h x (named_so name xs bs x e))
-known {X} name xs first bs (Some x) h = sym (subst (λ (b : List ℕ). first_named name xs b ≡ Some x) h (first x))
+use Rattle.awl.specs.Named.{first_named}
+use Rattle.awl.proofs.Named.{known}
+use Rattle.protocol.specs.Names.{verb_name, verbs, verb_of, host_kind_name, host_kind_of, block_kind_of}
 
 first_verb : (v : Verb) → first_named verb_name verbs (verb_name v) ≡ Some v
 first_verb (Project Open) = refl

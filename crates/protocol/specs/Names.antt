@@ -1,6 +1,6 @@
 -- The words that are names. It assumes nothing.
-use Rattle.std.specs.Prelude.{ℕ, cond, List, [], ◌∷◌, Some, None, codes, Option}
-use Rattle.std.specs.Str.{bytes_eq}
+use Rattle.std.specs.Prelude.{ℕ, List, [], ◌∷◌, codes, Option}
+use Rattle.awl.specs.Named.{first_named}
 use Rattle.awl.specs.Names.{kind_letters}
 use Rattle.awl.specs.declared.names.BlockKind.{BlockKind}
 use Rattle.awl.specs.declared.names.BlockKind.TheVariants.{Organisation, Program, Function}
@@ -10,11 +10,6 @@ use Rattle.protocol.specs.declared.names.ProjectVerb.TheVariants.{Open, Write, E
 use Rattle.protocol.specs.declared.names.HostVerb.TheVariants.{SetElapsed, SetInput, Input, Output, Elapsed, Taken, Outputs, Give, Advance}
 use Rattle.protocol.specs.declared.names.HostKind.{HostKind}
 use Rattle.protocol.specs.declared.names.HostKind.TheVariants.{Bench, Feed, MaskBench, MaskFeed}
-
--- the first of some things whose name the bytes are
-abbrev pub first_named : {X : Type 0} → (X → List ℕ) → List X → List ℕ → Option X
-first_named name [] bs = None
-first_named name (x ∷ xs) bs = cond (bytes_eq (name x) bs) (Some x) (first_named name xs bs)
 
 -- the first word of each call
 abbrev pub verb_name : Verb → List ℕ

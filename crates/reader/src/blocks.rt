@@ -194,13 +194,10 @@ impl Listing {
     fn carrier(&self, mark: &Mark) -> Option<u8>
         ensures value { result ≡ carrier (listed self.now.lines self.now.count) (mark_text mark.now) }
     {
-        let lines = self.lines();
-        for (i, line) in lines.iter().enumerate() {
-            if line.carries(mark) {
-                return Some((i + 1) as u8);
-            }
-        }
-        None
+        self.lines()
+            .iter()
+            .position(|line| line.carries(mark))
+            .map(|index| index as u8 + 1)
     }
 }
 

@@ -12,7 +12,7 @@ pub mod questions;
 pub mod writing;
 
 // Slot i of 32 has the statements from 255 * i on, data slot i of 16 the words from 256 * i on. Data blocks are laid one
-// slot after another, and stay: a count beside a table of fixed size, since a store never allocates.
+// slot after another, and stay, in a table of fixed size: so their count is the next free slot, which no search has to find.
 #[derive(Drop)]
 pub struct Store {
     number: u32,

@@ -30,13 +30,6 @@ was_unmarked seen i b e t = go (get_or seen i false) (sym e ∙ t)
     go true h = sym h
     go false h = refl
 
-pub was_marked : (seen : List Bool) (i : ℕ) (b : Bool) → b ≡ not (get_or seen i false) → b ≡ false → get_or seen i false ≡ true
-was_marked seen i b e t = go (get_or seen i false) (sym e ∙ t)
-  where
-    go : (x : Bool) → not x ≡ false → x ≡ true
-    go true h = refl
-    go false h = sym h
-
 -- a mark set again changes nothing
 marked_again : (seen : List Bool) (i : ℕ) → get_or seen i false ≡ true → set seen i true ≡ seen
 marked_again seen i e = ap (set seen i) (sym e) ∙ set-get_or seen i false

@@ -81,9 +81,3 @@ jump_goes block p q e =
     let u = from_unless (fault_at block p) _ q e in
     let w = from_jumped _ _ q u.1 in
     jump (none_lowest (HasAt block p.statement p.brackets) (fault_at block p) (low_at block p) u.0) w.0 w.1
-
--- a place without a fault whose statement goes on is not the last of 255
-pub room_to_go : (block : List Flow) (p : Place) → fault_at block p ≡ None → length block ≤ 255 → goes_on (flow_at block p.statement) ≡ true → p.statement < 255
-room_to_go block p e few g =
-    let l = goes_inside block p.statement p.brackets (none_lowest (HasAt block p.statement p.brackets) (fault_at block p) (low_at block p) e) g in
-    omega arith

@@ -4,8 +4,8 @@ ghost use Rattle.std.specs.Prelude.{◌≡◌, ◌≤◌, length};
 use crate::faults::Fault;
 use crate::flows::Flow;
 
-// What the walk found at a statement. Two flags and no case for both: that the walk comes, and that it comes bare, are each
-// exact by themselves.
+// What the walk found at a statement. Two flags and no enum of three: who counts statements asks the one, who follows calls
+// the other, and a match of cases would be no plainer in either.
 #[derive(Clone, Copy)]
 pub struct Sight {
     pub flow: Flow,

@@ -14,6 +14,7 @@ impl Feed {
     {
         match take_frame(self.text.as_slice(), self.at) {
             Some(Taken { frame, next }) => {
+                // By a variable: that an array is stored from a field straight has no proof yet.
                 let inputs = frame.inputs;
                 self.image.inputs = inputs;
                 self.image.elapsed = frame.elapsed;

@@ -1,5 +1,6 @@
 use Rattle.std.proofs.Common.{sym, ◌∙◌}
-use Rattle.lexer.proofs.Counting.{digit_more, digit_none, digit_end, digit_bound, counted}
+use Rattle.awl.proofs.Digits.{digit_more, digit_none, digit_end}
+use Rattle.lexer.proofs.Counting.{digit_bound, counted}
 use Rattle.lexer.proofs.values.number.Goals as goal
 
 pub returns-then-not-has : goal.returns-then-not-has

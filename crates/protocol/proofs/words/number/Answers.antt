@@ -1,7 +1,8 @@
 use Rattle.std.proofs.Common.{◌≡◌, ◌+◌, ◌<◌, length, drop, sym, ap, ◌∙◌, arith}
 use Rattle.std.proofs.lemmas.Bool.Decides.{nat_tests}
 use Rattle.protocol.specs.Numbers.{at_most, number_within}
-use Rattle.protocol.proofs.Counting.{digit_more, digit_none, digit_end, too_much, refused_digits, accepted_digits, no_digit}
+use Rattle.awl.proofs.Digits.{digit_more, digit_none, digit_end}
+use Rattle.protocol.proofs.Counting.{too_much, refused_digits, accepted_digits, no_digit}
 use Rattle.protocol.proofs.words.number.Goals as goal
 
 pub returns-then-is_empty : goal.returns-then-is_empty

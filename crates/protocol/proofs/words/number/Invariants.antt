@@ -1,5 +1,5 @@
 use Rattle.std.proofs.Common.{◌≡◌, ◌≤◌, drop}
-use Rattle.protocol.specs.Numbers.{number_from}
+use Rattle.awl.specs.Digits.{number_from}
 use Rattle.protocol.proofs.words.number.Given as goal
 
 abbrev pub invariant-loop-byte : goal.invariant-loop-byte
