@@ -100,7 +100,8 @@ fn data_length(word: Part, end: usize) -> Result<u16, HeadFault>
         .ok_or(fault(HeadFlaw::Length, word, end))
 }
 
-// The head, where no word stands behind it.
+// The head, where no word stands behind it. This and the next are like the parser's and the lexer's, with a head's own faults: over
+// the type of the fault they would need its making as one more parameter, and be no plainer.
 fn ended(head: Head, behind: Part) -> Result<Head, HeadFault>
     ensures value { result ≡ ended head (seen behind.entry) }
 {

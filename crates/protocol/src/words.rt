@@ -19,7 +19,8 @@ pub(crate) fn word_at(line: &[u8], n: usize) -> &[u8]
     line.split(|byte| *byte == b' ').nth(n).unwrap_or(&[])
 }
 
-// The number that a word of digits writes, unless it is above `most`.
+// The number that a word of digits writes, unless it is above `most`. A loop of its own beside the lexer's, which counts digits
+// and knows no most: what both say of digits is defined and proved once, in `awl`.
 pub(crate) fn number(word: &[u8], most: u32) -> Option<u32>
     ensures value { result ≡ number_within most word.now }
     ensures bound { IfSome result (λ n. n ≤ most) }
