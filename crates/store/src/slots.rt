@@ -5,7 +5,7 @@ ghost use Rattle.store.specs.Slots.{is_named, slot_in, names_in};
 use awl::names::BlockName;
 
 // 255 entries of the statement table: the block that has them, if any, and how many it takes. A size and no slice, here and
-// below: the tables are the store's, lent to it once, and a slot is a fixed part of them.
+// below: the tables are the store's, handed to it once for good, and a slot is a fixed part of them.
 #[derive(Clone, Copy)]
 pub struct Slot {
     pub name: Option<BlockName>,

@@ -6,7 +6,7 @@ ghost use Rattle.walk.specs.Walk.{goes_on, leaves, jumps_to};
 use crate::flows::Flow;
 
 // A statement, from 1, with the number of brackets open before it. What its numbers may be is asked where they are used:
-// places are lent to be worked in with any numbers, and come back as 0 and 0.
+// places are lent to be worked in with any numbers, and a check leaves the first 1,530 as 0 and 0.
 #[derive(Clone, Copy)]
 pub struct Place {
     pub statement: u8,

@@ -14,7 +14,7 @@ impl Feed {
     {
         match take_frame(self.text.as_slice(), self.at) {
             Some(Taken { frame, next }) => {
-                // By a variable: that an array is stored from a field straight has no proof yet.
+                // By a variable, since an array assigned from a field directly did not prove.
                 let inputs = frame.inputs;
                 self.image.inputs = inputs;
                 self.image.elapsed = frame.elapsed;
