@@ -53,7 +53,7 @@ pub struct TimerName {
 
 // A counter: Z 1
 // A type of its own beside the timer's, alike but for its name: one type over a marker would tell them apart by a
-// PhantomData in every literal and pattern, which is no plainer.
+// PhantomData in every literal and pattern, and one over a constant by a number for its kind: neither is plainer.
 #[derive(Clone, Copy)]
 pub struct CounterName {
     pub number: u8,

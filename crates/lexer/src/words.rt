@@ -12,8 +12,8 @@ pub struct Part<'a> {
     pub column: usize,
 }
 
-// A word of the line, by what it stands for. A case for each and no kind beside a part: `Word::Mark(part)` is read where words are
-// named, and the kind is asked in one place.
+// A word of the line, by what it stands for. A case for each, and no kind beside a part: those who read a line name a word by its
+// case, as `Word::Mark(part)`, and one function asks which it is, so that a kind would be no plainer.
 #[derive(Clone, Copy)]
 pub enum Word<'a> {
     Mark(Part<'a>),

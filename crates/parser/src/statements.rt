@@ -177,7 +177,7 @@ impl Typed<'_> {
     }
 
     // `stored_bit`, `timer`, `counter` and `chosen_data` differ in their letters, which stand in a pattern; no pattern is a
-    // parameter.
+    // parameter, and a closure with one pattern for each would be no plainer.
 
     // S and = store a bit.
     fn stored_bit(self) -> Result<Bit, WordFault>
