@@ -1,5 +1,5 @@
 -- The statements of a block, one after another: their rows beside the lines of a text. Assumes nothing.
-use Rattle.std.proofs.Common.{◌≡◌, ℕ, ◌+◌, ◌<◌, ◌≤◌, Bool, true, false, cond, eqb, List, [], ◌∷◌, ◌++◌, map, length, get_or, drop, is_some, Some, None, Option, sym, refl, ap, ◌∙◌, append_assoc, arith}
+use Rattle.std.proofs.Common.{◌≡◌, ℕ, ◌+◌, ◌<◌, ◌≤◌, Bool, true, false, cond, eqb, List, [], ◌∷◌, ◌++◌, map, length, get_or, drop, is_some, Some, None, Option, sym, refl, ap, ◌∙◌, append_assoc, append-nil, arith}
 use Rattle.std.specs.Option.{option_map}
 use Rattle.std.proofs.lemmas.List.{at_drop_more, at_drop_all, length-map, get_or-map}
 use Rattle.awl.specs.Written.{mark_text}
@@ -69,3 +69,9 @@ no_statements n s (line ∷ lines) = refl
 pub rows_done : (xs : List Line) (i n : ℕ) (lines : List (List ℕ)) → length xs ≤ i → statement_rows (drop i (map entry xs)) n (i + 1) lines ≡ []
 rows_done xs i n lines h =
     at_drop_all (λ (ys : List Entry). statement_rows ys n (i + 1) lines) (map entry xs) i (omega (arith, length-map xs entry)) ∙ no_statements n (i + 1) lines
+
+-- the row of the last statement ends the rows
+pub rows_last : (xs : List Line) (i n : ℕ) (d : Line) (line out row more : List ℕ) (all rest : List (List ℕ)) → i < length xs → all ≡ line ∷ rest → eqb (get_or xs i d).number n ≡ true → row ≡ statement_row (i + 1) (entry (get_or xs i d)) line → more ≡ out ++ row → length xs ≤ i + 1 →
+    more ≡ out ++ statement_rows (drop i (map entry xs)) n (i + 1) all
+rows_last xs i n d line out row more all rest h cut q r m end =
+    sym (append-nil more) ∙ ap (λ (x : List ℕ). more ++ x) (sym (rows_done xs (i + 1) (n + 1) rest end)) ∙ rows_hit xs i n d line out row more all rest h cut q r m

@@ -16,7 +16,8 @@ use reports::shown::shown;
 use std::alloc::{AllocError, Global};
 
 // A row for each statement of the block, in the order of the text that the block was read from. Text and block are gone over side
-// by side, so that no line is looked for twice: a search for each statement's line would take the square of the time.
+// by side, so that no line is looked for twice: a search for each statement's line would take the square of the time. What
+// stands below the last statement is not gone over.
 pub fn statement_rows(heap: Global, block: &Block, text: &[u8]) -> Result<String, AllocError>
     ensures value { IfOk result (λ s. string_bytes s ≡ statement_rows (listed block.now.lines block.now.count) 1 1 (lines_of text.now)) }
 {
@@ -28,6 +29,9 @@ pub fn statement_rows(heap: Global, block: &Block, text: &[u8]) -> Result<String
         {
             done += 1;
             rows.push_str(statement_row(heap, done, *next, line)?.as_str())?;
+            if done == block.count {
+                break;
+            }
         }
     }
     Ok(rows)
