@@ -1,9 +1,7 @@
 -- The first fault of a block, of the blocks of some slots, and of a project.
-use Rattle.std.proofs.Common.{◌≡◌, ℕ, ◌+◌, ◌<◌, ◌≤◌, Bool, true, false, cond, ◌⊎◌, length, MatchOption, Some, None, Ok, Err, Decides, Option, Result, sym, refl, ap, ◌∙◌, subst, ap₂, inl, inr, ⊎_elim, arith}
+use Rattle.std.proofs.Common.{◌≡◌, ℕ, ◌+◌, ◌<◌, ◌≤◌, Bool, true, ◌⊎◌, length, MatchOption, Some, None, Ok, Err, Decides, Option, Result, sym, refl, ap, ◌∙◌, subst, ap₂, inl, inr, ⊎_elim, arith}
 use Rattle.std.proofs.lemmas.Bool.{cases_lt, cases_order, both_ways}
 use Rattle.std.specs.Option.{ok_or}
-use Rattle.std.specs.Ordering.{is_gt}
-use Rattle.std.specs.declared.cmp.Ordering.{Ordering}
 use Rattle.awl.specs.Order.{kind_rank, Before}
 use Rattle.awl.specs.declared.names.BlockKind.{BlockKind}
 use Rattle.awl.specs.declared.names.BlockKind.TheVariants.{Organisation, Program, Function}
@@ -14,7 +12,6 @@ use Rattle.store.specs.declared.store.Store.{Store}
 use Rattle.walk.proofs.Lowests.{none_some}
 use Rattle.walk.proofs.Ways.{walk_in}
 use Rattle.walk.specs.Faults.{fault_number}
-use Rattle.walk.specs.Lesser.{lesser_of}
 use Rattle.walk.specs.Places.{Lowest}
 use Rattle.walk.specs.Walk.{Fit}
 use Rattle.walk.specs.declared.faults.Fault.{Fault as FaultKind}
@@ -23,21 +20,10 @@ use Rattle.checker.specs.Chains.{In}
 use Rattle.checker.specs.Inside.{BadAt, FirstIn, JudgesIn}
 use Rattle.checker.specs.Joins.{Earlier, Reached, FirstTo, JudgesTo, FirstHere, JudgesHere}
 use Rattle.checker.specs.Project.{Project, project_of, Holds, flows_in, outermost, Met, at, k9}
-use Rattle.checker.specs.Verdicts.{NotAfter, Passes, First, Verdict, Judges}
+use Rattle.checker.specs.Verdicts.{NotAfter, Passes, First, Verdict, Judges, is_pass}
 use Rattle.checker.specs.declared.verdicts.Found.{Found}
 use Rattle.checker.proofs.Chaining.{walk_chain, chain_held, chain_start, bad_met, met_bad, met_chain, some_same}
 use Rattle.checker.proofs.Fitting.{slot_low, held_slot}
-
--- the lesser of two is the earlier, by an order that puts names first
-pub lesser_earlier : (order : Found → Found → Ordering) → ((f g : Found) → (f.block ≡ g.block → ⊥) → Decides (is_gt (order f g)) (Before g.block f.block)) →
-    (best other r : Option Found) → r ≡ lesser_of order best other → Earlier best other r
-lesser_earlier order named None other r e = e
-lesser_earlier order named (Some f) None r e = e
-lesser_earlier order named (Some f) (Some g) r e = λ apart. choose (is_gt (order f g)) (named f g apart) e
-  where
-    choose : (later : Bool) → Decides later (Before g.block f.block) → r ≡ cond later (Some g) (Some f) → ((r ≡ Some g) × Before g.block f.block) ⊎ ((r ≡ Some f) × (Before g.block f.block → ⊥))
-    choose true d same = inl (same, d.0 refl)
-    choose false d same = inr (same, λ before. both_ways _ refl (d.1 before))
 
 -- one block, statement by statement
 module _ (p : Project) (b : BlockName) (deep : Bool) where
@@ -150,21 +136,18 @@ module _ (s : Store) where
       subst (λ (o : Option Found). JudgesTo s (n + 1) o) (sym e) (takes n g here (λ i b t w l at h. absurd (best i b t w l at h)))
   judges_more n (Some f) None r best here e =
       subst (λ (o : Option Found). JudgesTo s (n + 1) o) (sym e) (keeps n f best (λ b t w at h. absurd (here b t w at h)))
-  judges_more n (Some f) (Some g) r best here e =
-      ⊎_elim
-      (λ (taken : (r ≡ Some g) × Before g.block f.block).
-      subst (λ (o : Option Found). JudgesTo s (n + 1) o) (sym taken.0)
-      (takes n g here (λ i b t w l at h. before_all g.block f.block b _ _ _ _ t w taken.1 (best.least i b t w l at h))))
-      (λ (kept : (r ≡ Some f) × (Before g.block f.block → ⊥)).
-      subst (λ (o : Option Found). JudgesTo s (n + 1) o) (sym kept.0)
+  judges_more n (Some f) (Some g) r best here (inl e) =
+      subst (λ (o : Option Found). JudgesTo s (n + 1) o) (sym e.0)
+      (takes n g here (λ i b t w l at h. before_all g.block f.block b _ _ _ _ t w e.1 (best.least i b t w l at h)))
+  judges_more n (Some f) (Some g) r best here (inr e) =
+      subst (λ (o : Option Found). JudgesTo s (n + 1) o) (sym e.0)
       (keeps n f best (λ b t w at h.
       let same = some_same (sym here.named ∙ at) in
-      inl (subst (λ (c : BlockName). Before f.block c) same (before_total g.block f.block (λ q. apart (sym q)) kept.1)))))
-      (e apart)
+      inl (subst (λ (c : BlockName). Before f.block c) same (before_total g.block f.block other e.1))))
     where
-      apart : f.block ≡ g.block → ⊥
-      apart q =
-          let one = name_has_slot s f.block n (here.named ∙ ap Some (sym q)) in
+      other : g.block ≡ f.block → ⊥
+      other q =
+          let one = name_has_slot s f.block n (here.named ∙ ap Some q) in
           let two = name_has_slot s f.block best.slot best.named in
           let same = some_same (sym one ∙ two) in
           let l = best.within in
@@ -230,3 +213,8 @@ judges_unstarted s None f e told = subst (λ (g : Found). First (project_of s) g
     same : (g h : Found) → ◌≡◌ {A = Result ℕ Found} (Err g) (Err h) → h ≡ g
     same g h q = cc
 judges_unstarted s (Some i) f e told = cc
+
+-- a right verdict is pass exactly where the project passes
+pub judges_exact : (p : Project) (v : Verdict) → Judges p v → Decides (is_pass v) (Passes p)
+judges_exact p (Ok pass) j = (λ e. j, λ h. refl)
+judges_exact p (Err f) j = (λ e. absurd (both_ways _ refl e), λ h. absurd (h f.block f.statement (fault_number f.fault) j.met))

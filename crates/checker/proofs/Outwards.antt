@@ -157,11 +157,17 @@ seen_lowest p b deep s x seen =
     (λ v h. ⊎_elim (λ (m : HasAt (flows_in p b) s h.0 v). inl (h.0, h.1, m)) (λ (o : Outward p deep (flow_at (flows_in p b) s) h.0 v). inr (h.0, h.1, o)) h.2)
     (lower_lowest (Meets (flows_in p b) s) (OutAt p deep (flows_in p b) s) x.fault _ seen.fault (walked_lowest p deep (flows_in p b) s x.walked x.bare x.flow seen.flow seen.walked seen.bare))
 
--- the same by a block's finding
-pub found_lowest : (p : Project) (b : BlockName) (deep : Bool) (f : Finding) (told : List Sight) (i : ℕ) (d : Sight) (o : Option Fault) →
-    Found (flows_in p b) f.sights f.count → told ≡ take f.count f.sights → i < length told → o ≡ fault_seen p deep (get_or told i d) → Lowest o (BadAt p b deep (i + 1))
-found_lowest p b deep f told i d o of are l seen =
+-- the same by what was found in a block
+pub found_lowest : (p : Project) (b : BlockName) (deep : Bool) (sights : List Sight) (count i : ℕ) (x : Sight) (o : Option Fault) →
+    Found (flows_in p b) sights count → i < count → x ≡ get_or sights (i + 1 - 1) unseen → o ≡ fault_seen p deep x → Lowest o (BadAt p b deep (i + 1))
+found_lowest p b deep sights count i x o of inside is seen =
     let size = of.size in
+    let here = subst (λ (y : Sight). Sighted (flows_in p b) (i + 1) y) (sym is) (of.all (i + 1) (omega arith) (omega arith)) in
+    subst (λ (y : Option Fault). Lowest y (BadAt p b deep (i + 1))) (sym seen) (seen_lowest p b deep (i + 1) x here)
+
+-- and by the sights that its finding tells
+pub told_lowest : (p : Project) (b : BlockName) (deep : Bool) (f : Finding) (told : List Sight) (i : ℕ) (d : Sight) (o : Option Fault) →
+    Found (flows_in p b) f.sights f.count → told ≡ take f.count f.sights → i < length told → o ≡ fault_seen p deep (get_or told i d) → Lowest o (BadAt p b deep (i + 1))
+told_lowest p b deep f told i d o of are l seen =
     let count = told_count f told are in
-    let here = subst (λ (y : Sight). Sighted (flows_in p b) (i + 1) y) (sym (told_here f told i d are l)) (of.all (i + 1) (omega arith) (omega arith)) in
-    subst (λ (y : Option Fault). Lowest y (BadAt p b deep (i + 1))) (sym seen) (seen_lowest p b deep (i + 1) (get_or told i d) here)
+    found_lowest p b deep f.sights f.count i (get_or told i d) o of (omega arith) (told_here f told i d are l) seen

@@ -74,8 +74,8 @@ abbrev pub JudgesHere : Store → ℕ → Option FoundFault → Type 0
 JudgesHere s n None = (b : BlockName) (t w : ℕ) → name_at s n ≡ Some b → Met (project_of s) b t w → ⊥
 JudgesHere s n (Some f) = FirstHere s n f
 
--- of two faults in different blocks, the one whose block comes first
+-- of two faults, the one whose block comes first; of two in one block the first
 abbrev pub Earlier : Option FoundFault → Option FoundFault → Option FoundFault → Type 0
 Earlier None other r = r ≡ other
 Earlier (Some f) None r = r ≡ Some f
-Earlier (Some f) (Some g) r = (f.block ≡ g.block → ⊥) → ((r ≡ Some g) × Before g.block f.block) ⊎ ((r ≡ Some f) × (Before g.block f.block → ⊥))
+Earlier (Some f) (Some g) r = ((r ≡ Some g) × Before g.block f.block) ⊎ ((r ≡ Some f) × (Before g.block f.block → ⊥))

@@ -15,7 +15,6 @@ use awl::names::{BlockKind, BlockName};
 use store::store::Store;
 use walk::faults::{Fault, lower};
 use walk::flows::Flow;
-use walk::lesser::lesser;
 use walk::sights::{Finding, Sight};
 
 // OB 1, where a scan starts.
@@ -115,11 +114,15 @@ impl Join<'_> {
     }
 }
 
-// Of two faults in different blocks, the one whose block comes first.
+// Of two faults, the one whose block comes first; of two in one block the first. Not by the generic lesser, which goes on to
+// statement and fault.
 fn earlier(best: Option<Found>, other: Option<Found>) -> Option<Found>
     ensures value { Earlier best other result }
 {
-    lesser(best, other)
+    match (best, other) {
+        (Some(mine), Some(theirs)) if theirs.block.precedes(mine.block) => other,
+        _ => best.or(other),
+    }
 }
 
 // The slot of the block that a statement's call enters, as a set; empty where it enters none that is held.

@@ -1,7 +1,7 @@
 -- Which texts hold frame lines alone, and what is left of one behind its first line.
-use Rattle.std.proofs.Common.{◌≡◌, ℕ, ◌+◌, ◌<◌, Bool, ◌&&◌, not, ◌==◌, List, [], ◌∷◌, length, take, drop, sym, refl, ap, ◌∙◌, arith}
+use Rattle.std.proofs.Common.{◌≡◌, ℕ, ◌+◌, ◌<◌, Bool, ◌&&◌, not, ◌==◌, leb, ltb, List, [], ◌∷◌, length, take, drop, sym, refl, ap, ◌∙◌, arith}
 use Rattle.std.specs.List.{list_all, enumerate_from}
-use Rattle.std.proofs.lemmas.Bool.{le-leb}
+use Rattle.std.proofs.lemmas.Bool.{le-leb, lt-ltb}
 use Rattle.std.proofs.lemmas.List.{drop-drop}
 use Rattle.std.proofs.lemmas.List.Folds.{length-prefix_len}
 use Rattle.lines.specs.Lines.{lines_of}
@@ -13,12 +13,13 @@ pub formed_places : (place : ℕ) (cs : List ℕ) → list_all (λ (p : ℕ × �
 formed_places place [] = refl
 formed_places place (c ∷ cs) = ap (λ b. formed_byte place c && b) (formed_places (place + 1) cs)
 
--- a text with a byte has a line
-some_line : (t : List ℕ) → 0 < length t → 0 < length (lines_of t)
-some_line t h = omega (arith, ap length (line_cut t h))
+-- a text has a line exactly if it has a byte
+some_line : (t : List ℕ) → leb 1 (length (lines_of t)) ≡ ltb 0 (length t)
+some_line [] = refl
+some_line (c ∷ cs) = le-leb 1 _ (omega (arith, ap length (line_cut (c ∷ cs) (omega arith)))) ∙ sym (lt-ltb 0 _ (omega arith))
 
 pub all_formed : (t : List ℕ) (r : Bool) → 0 < length t → r ≡ list_all well_formed (lines_of t) → r ≡ accepted t
-all_formed t r h e = e ∙ sym (ap (λ b. b && list_all well_formed (lines_of t)) (le-leb 1 _ (some_line t h)))
+all_formed t r h e = e ∙ sym (ap (λ b. b && list_all well_formed (lines_of t)) (some_line t ∙ lt-ltb 0 _ h))
 
 -- what is left behind the first line
 behind : (t l : List ℕ) (ls : List (List ℕ)) → lines_of t ≡ l ∷ ls → ls ≡ lines_of (drop (length l + 1) t)
