@@ -1,5 +1,5 @@
 -- A store's slots and names: each name finds its slot, each slot its name and its statements. Assumes nothing.
-use Rattle.std.proofs.Common.{◌≡◌, ℕ, ◌*◌, ◌<◌, ◌≤◌, List, [], map, get_or, take, drop, is_some, Some, None, vec_items, Option, refl, ap, ◌∙◌, ap₂, arith}
+use Rattle.std.proofs.Common.{◌≡◌, ℕ, ◌*◌, ◌<◌, ◌≤◌, List, [], map, get_or, take, drop, is_some, Some, None, vec_items, Option, sym, refl, ap, ◌∙◌, subst, ap₂, arith}
 use Rattle.std.specs.Option.{option_map}
 use Rattle.std.proofs.lemmas.List.{get_or_past}
 use Rattle.parser.specs.Statements.{written}
@@ -45,10 +45,13 @@ some_mapped f (Some x) = refl
 pub held_found : (s : Store) (n : BlockName) → is_some (blocks s n) ≡ is_some (slot_of s n)
 held_found s n = ap is_some (block_in_slot s n) ∙ some_mapped (text_at s) (slot_of s n)
 
--- the statements in a slot are a part of the table; past the 32 slots there are none
+-- the statements in a slot are a part of the table, which can be read where a block has the slot; past the 32 slots there are none
 pub text_part : (s : Store) (i size : ℕ) (table part : List Statement) → size ≡ size_in s.slots i → table ≡ vec_items s.statements → part ≡ take size (drop (i * 255) table) → map written part ≡ text_at s i
 unfolding statements_in
 text_part s i size table part long e is = ap (map written) is ∙ ap₂ (λ (n : ℕ) (t : List Statement). map written (take n (drop (i * 255) t))) long e
+
+pub part_readable : (s : Store) (i size : ℕ) (table part : List Statement) → size ≡ size_in s.slots i → table ≡ vec_items s.statements → part ≡ take size (drop (i * 255) table) → (n : BlockName) → name_at s i ≡ Some n → Readable (map written part)
+part_readable s i size table part long e is n h = subst Readable (sym (text_part s i size table part long e is)) (text_readable s i n h)
 
 pub text_past : (s : Store) (i : ℕ) → 32 ≤ i → text_at s i ≡ []
 unfolding statements_in

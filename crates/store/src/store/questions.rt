@@ -29,6 +29,7 @@ impl Store {
     }
 
     // The statements of the block in a slot; none where no block has it, and from 32 on.
+    #[tactic(auto, using(crate::proofs::Holding::text_part, crate::proofs::Holding::part_readable, crate::proofs::Holding::text_past))]
     pub fn statements_at(&self, slot: u8) -> &[Statement]
         ensures value { map written result.now ≡ text_at self.now slot }
         ensures readable { (n : BlockName) → name_at self.now slot ≡ Some n → Readable (map written result.now) }
