@@ -24,14 +24,12 @@ fn main(rt: HostRuntime) -> anyhow::Result<()> {
 // One line for each case.
 fn answers(heap: Global, input: &[u8]) -> Result<String, AllocError> {
     let mut out = String::new(heap);
-    let mut lines = Lines::of(input);
-    let mut is_first = true;
-    while let Some(line) = lines.next() {
-        if is_first || line.first() == Some(&b'=') {
-            let (file, _) = lines.rest().split_at(case_size(lines.rest()));
-            out.push_str(answer(heap, line, file)?.as_str())?;
-        }
-        is_first = false;
+    let mut rest = input;
+    while let Some(head) = Lines::of(rest).next() {
+        let below = tail(rest, head.len() + 1);
+        let (file, behind) = below.split_at(case_size(below));
+        out.push_str(answer(heap, head, file)?.as_str())?;
+        rest = behind;
     }
     Ok(out)
 }
@@ -44,17 +42,16 @@ fn answer(heap: Global, head: &[u8], file: &[u8]) -> Result<String, AllocError> 
     format!(in heap; "{title}: {said}\n")
 }
 
-// The bytes before the next line that starts with =, or all.
+// The bytes before the next line that starts with =, or all. By pairs of bytes and not by lines, of which short ones would
+// take most of the time.
 fn case_size(rest: &[u8]) -> usize
     ensures bound { result ≤ length rest.now }
 {
-    let mut lines = Lines::of(rest);
-    let mut behind = rest;
-    while let Some(line) = lines.next() {
-        if line.first() == Some(&b'=') {
-            break;
-        }
-        behind = lines.rest();
+    if rest.first() == Some(&b'=') {
+        return 0;
     }
-    rest.len().saturating_sub(behind.len())
+    let end = rest
+        .windows(2)
+        .position(|pair| matches!(pair, [b'\n', b'=']));
+    end.map_or(rest.len(), |end| end + 1).min(rest.len())
 }

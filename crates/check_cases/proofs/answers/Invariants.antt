@@ -1,0 +1,5 @@
+use Rattle.std.proofs.Common.{length}
+use Rattle.check_cases.proofs.answers.Given as goal
+
+abbrev pub decreases-loop-head : goal.decreases-loop-head
+decreases-loop-head l = length l.rest
